@@ -40,12 +40,8 @@ fn show_table(rt: &impl Print) -> io::Result<()> {
 }
 
 fn write_table(block: &mut [u8; 512]) {
-    let mut at = 0;
-    for size in &TABLE {
-        if at <= 500 {
-            block[at..at + 12].copy_from_slice(&size.to_line());
-            at += 12;
-        }
+    for (i, size) in TABLE.iter().enumerate() {
+        block[12 * i..12 * i + 12].copy_from_slice(&size.to_line());
     }
 }
 
