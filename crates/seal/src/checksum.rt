@@ -33,7 +33,8 @@ fn step(c: u32, b: u8) -> u32
     entry(0, (c ^ u32::from(b)) & 0xff) ^ c >> 8
 }
 
-// Eight bytes more. The word that does not wait for the register is looked up first: the other order costs a quarter.
+// Eight bytes more. The word that does not wait for the register is looked up first, which
+// shortens the chain of operations from one turn to the next.
 fn step8(c: u32, b: &[u8; 8]) -> u32
     ensures { λ r. ⌜ r ≡ run c (now (b .entry)) ⌝ }
 {
