@@ -2,7 +2,7 @@
 ghost use mathlib.Core.Path.{_≡_};
 ghost use Prim.Native.Nat.{_≤_};
 ghost use lib.ListN.{length};
-ghost use Rattle.field.specs.Fields.{prefixed};
+ghost use Rattle.field.specs.Fields.{field, prefixed};
 ghost use Rattle.field.specs.Held.{keyOf, valueOf};
 use crate::held::Key;
 use crate::held::Value;
@@ -23,6 +23,13 @@ impl Key {
         ensures { λ r. ⌜ now r ≡ keyOf (now (self .entry)) ⌝ }
     {
         &self.image[1..1 + usize::from(self.image[0])]
+    }
+
+    // The length byte, and the bytes padded with zeros.
+    pub fn padded(&self) -> &[u8; 17]
+        ensures { λ r. ⌜ now r ≡ field 16 (keyOf (now (self .entry))) ⌝ }
+    {
+        &self.image
     }
 
     // The length byte and the bytes.
@@ -49,6 +56,13 @@ impl Value {
         ensures { λ r. ⌜ now r ≡ valueOf (now (self .entry)) ⌝ }
     {
         &self.image[1..1 + usize::from(self.image[0])]
+    }
+
+    // The length byte, and the bytes padded with zeros.
+    pub fn padded(&self) -> &[u8; 65]
+        ensures { λ r. ⌜ now r ≡ field 64 (valueOf (now (self .entry))) ⌝ }
+    {
+        &self.image
     }
 
     // The length byte and the bytes.

@@ -1,0 +1,4 @@
+mod Behind
+pub mod Laws
+mod Numbers
+pub mod Steps

@@ -1,0 +1,3 @@
+pub mod Ranked
+mod Strings
+mod Tally
