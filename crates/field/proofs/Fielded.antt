@@ -11,6 +11,8 @@ use lib.Dec.{leb, eqb}
 use lib.ListN.{length, getD, take, drop, replicate}
 use Rattle.std.proofs.shelf.Lists.{take-at, drop-at, take-append-drop, drop-drop, drop-more, drop-all, drop-replicate, take-rest, length-take-le}
 use Rattle.std.proofs.shelf.Tests.{and-parts, and-from, eqb-true, eq-eqb, le-leb, lt-leb}
+use Rattle.std.proofs.shelf.Ways.{decides-like}
+use Rattle.std.specs.Orderings.{Decides}
 use Rattle.field.specs.Fields.{field, fieldAt, prefixed, areZeros, isField}
 
 pub put-drop : (a e : ℕ) (xs ys : List ℕ) → a ≤ e → e ≤ length xs → drop a (putMid a (e - a) xs ys) ≡ ys ++ drop e xs
@@ -100,3 +102,8 @@ filled-back n s out e = ap (λ (b : List ℕ). fieldAt b 0) e ∙ field-back n s
 
 pub filled-padded : (n : ℕ) (s out : List ℕ) → out ≡ field n s → out ≡ field n (fieldAt out 0)
 filled-padded n s out e = e ∙ ap (field n) (sym (filled-back n s out e))
+
+-- whether two fields are the same tells whether they hold the same
+pub same-held : (n : ℕ) (x y : List ℕ) (r : Bool) → x ≡ field n (fieldAt x 0) → y ≡ field n (fieldAt y 0)
+    → Decides r (x ≡ y) → Decides r (fieldAt x 0 ≡ fieldAt y 0)
+same-held n x y r p q = decides-like r (ap (λ (b : List ℕ). fieldAt b 0)) (λ e. p ∙ ap (field n) e ∙ sym q)

@@ -1,8 +1,8 @@
 // Numbers, zeros and fields read in place.
 ghost use mathlib.Core.Path.{_≡_};
 ghost use Prim.Native.Nat.{_+_, _<_, _≤_};
-ghost use lib.ListN.{length};
-ghost use Rattle.field.specs.Fields.{areZeros, half, isField, word};
+ghost use lib.ListN.{getD, length};
+ghost use Rattle.field.specs.Fields.{areZeros, fieldAt, half, isField, word};
 
 // The 16-bit number at a place.
 pub fn half_at(b: &[u8], at: usize) -> usize
@@ -19,6 +19,14 @@ pub fn word_at(b: &[u8], at: usize) -> u32
     ensures { λ r. ⌜ r ≡ word (now (b .entry)) at ⌝ }
 {
     u32::from_le_bytes([b[at], b[at + 1], b[at + 2], b[at + 3]])
+}
+
+// The bytes behind a length byte.
+pub fn field_at(b: &[u8], at: usize) -> &[u8]
+    requires { ⌜ at + 1 + getD (now b) at 0 ≤ length (now b) ⌝ }
+    ensures { λ r. ⌜ now r ≡ fieldAt (now (b .entry)) at ⌝ }
+{
+    &b[at + 1..at + 1 + usize::from(b[at])]
 }
 
 // The loop has no exit, so that it runs over many bytes at once.

@@ -1,0 +1,13 @@
+pub mod Standing
+pub mod Entries
+pub mod Pages
+pub mod Walked
+pub mod Parsed
+pub mod Laid
+pub mod Passed
+pub mod Exact
+pub mod Heads
+pub mod Sizes
+pub mod Going
+pub mod Images
+pub mod Rises

@@ -1,0 +1,3 @@
+pub mod Dividing
+pub mod Keeping
+pub mod Placing

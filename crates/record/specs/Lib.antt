@@ -1,0 +1,5 @@
+pub mod Layout
+pub mod Contents
+pub mod Changes
+pub mod Laws
+pub mod Model
