@@ -40,35 +40,53 @@ heap-below (e ∷ es) s =
     heap-below es (entryBytes e ++ s) ∙ sym (append-assoc (heap es []) (entryBytes e) s)
     ∙ ap (λ (x : List ℕ). x ++ s) (sym (heap-below es (entryBytes e ++ []) ∙ ap (λ (x : List ℕ). heap es [] ++ x) (append-nil (entryBytes e))))
 
--- the slots from one on, and the heap that their entries lie in, one below the other
-pub entries-back : (es : List Entry) (l : ℕ) (b pre below more : List ℕ) (slot end : ℕ) → AllKinded l es
-    → drop slot b ≡ slots (places end es) ++ more
-    → b ≡ pre ++ heap es below → length pre + length (heap es []) ≡ end → end < 2 ^ 16
-    → entriesAt (length es) l b slot ≡ es
-unfolding entriesAt slots places heap le2
-entries-back [] l b pre below more slot end k s h n f = refl
-entries-back (e ∷ es) l b pre below more slot end (k, ks) s h n f =
-    let x : List ℕ = entryBytes e in
-    let at : ℕ = end - length x in
-    let size : length (heap es (x ++ [])) ≡ length (heap es []) + length x =
-    ap length (heap-below es (x ++ []) ∙ ap (λ (y : List ℕ). heap es [] ++ y) (append-nil x)) ∙ length-append (heap es []) x in
-    let n′ : length pre + length (heap es []) ≡ at = omega arith in
-    let split : b ≡ (pre ++ heap es []) ++ (x ++ below) =
-    h ∙ ap (λ (y : List ℕ). pre ++ y) (heap-below es (x ++ below)) ∙ sym (append-assoc pre (heap es []) (x ++ below)) in
-    let here : drop at b ≡ x ++ below =
-    ap (drop at) split ∙ drop-at (pre ++ heap es []) (x ++ below) at (length-append pre (heap es []) ∙ n′) in
-    let f′ : at < 2 ^ 16 = omega arith in
-    let slot-is : half b slot ≡ at = half-at b (slots (places at es) ++ more) slot at f′ s in
-    let next : drop (slot + 2) b ≡ slots (places at es) ++ more = sym (drop-drop 2 slot b) ∙ ap (drop 2) s in
-    ap₂ {C = List Entry} (λ (y : Entry) (ys : List Entry). y ∷ ys)
-    (ap (λ (i : ℕ). entryOf l (drop i b)) slot-is ∙ ap (entryOf l) here ∙ entry-back l e below k)
-    (entries-back es l b pre (x ++ below) more (slot + 2) at ks next h n′ f′)
-
 heap-more : (e : Entry) (es : List Entry) → length (heap (e ∷ es) []) ≡ length (heap es []) + length (entryBytes e)
 unfolding heap
 heap-more e es =
     ap length (heap-below es (entryBytes e ++ []) ∙ ap (λ (y : List ℕ). heap es [] ++ y) (append-nil (entryBytes e)))
     ∙ length-append (heap es []) (entryBytes e)
+
+-- The first of some entries whose slots and heap stand in a list, and where the others stand.
+pub record Step (b pre below more : List ℕ) (e : Entry) (es : List Entry) (slot end : ℕ) : Type 0 where
+  pub room : length pre + length (heap es []) ≡ end - length (entryBytes e)
+  pub ends : end - length (entryBytes e) + length (entryBytes e) ≡ end
+  pub fits : end - length (entryBytes e) < 2 ^ 16
+  pub here : drop (end - length (entryBytes e)) b ≡ entryBytes e ++ below
+  pub place : half b slot ≡ end - length (entryBytes e)
+  pub next : drop (slot + 2) b ≡ slots (places (end - length (entryBytes e)) es) ++ more
+
+pub step : (b pre below more : List ℕ) (e : Entry) (es : List Entry) (slot end : ℕ)
+    → drop slot b ≡ slots (places end (e ∷ es)) ++ more
+    → b ≡ pre ++ heap (e ∷ es) below → length pre + length (heap (e ∷ es) []) ≡ end → end < 2 ^ 16
+    → Step b pre below more e es slot end
+unfolding slots places heap le2
+step b pre below more e es slot end s h n f =
+    let x : List ℕ = entryBytes e in
+    let at : ℕ = end - length x in
+    let size = heap-more e es in
+    let room : length pre + length (heap es []) ≡ at = omega arith in
+    let split : b ≡ (pre ++ heap es []) ++ (x ++ below) =
+    h ∙ ap (λ (y : List ℕ). pre ++ y) (heap-below es (x ++ below)) ∙ sym (append-assoc pre (heap es []) (x ++ below)) in
+    record {
+      room = room;
+      ends = omega arith;
+      fits = omega arith;
+      here = ap (drop at) split ∙ drop-at (pre ++ heap es []) (x ++ below) at (length-append pre (heap es []) ∙ room);
+      place = half-at b (slots (places at es) ++ more) slot at (omega arith) s;
+      next = sym (drop-drop 2 slot b) ∙ ap (drop 2) s;
+    }
+
+pub entries-back : (es : List Entry) (l : ℕ) (b pre below more : List ℕ) (slot end : ℕ) → AllKinded l es
+    → drop slot b ≡ slots (places end es) ++ more
+    → b ≡ pre ++ heap es below → length pre + length (heap es []) ≡ end → end < 2 ^ 16
+    → entriesAt (length es) l b slot ≡ es
+unfolding entriesAt heap
+entries-back [] l b pre below more slot end k s h n f = refl
+entries-back (e ∷ es) l b pre below more slot end (k, ks) s h n f =
+    let w = step b pre below more e es slot end s h n f in
+    ap₂ {C = List Entry} (λ (y : Entry) (ys : List Entry). y ∷ ys)
+    (ap (λ (i : ℕ). entryOf l (drop i b)) (w .place) ∙ ap (entryOf l) (w .here) ∙ entry-back l e below k)
+    (entries-back es l b pre (entryBytes e ++ below) more (slot + 2) (end - length (entryBytes e)) ks (w .next) h (w .room) (w .fits))
 
 pub cost-is : (e : Entry) → cost e ≡ 2 + length (entryBytes e)
 unfolding cost entryBytes prefixed

@@ -16,7 +16,7 @@ use Rattle.page.specs.Form.{areFences, areKeys, isOrdered, isLaid, isSound}
 use Rattle.page.specs.Walk.{walks, walksAll, passes}
 use Rattle.page.specs.Laws.{Walk-is-exact}
 use Rattle.page.proofs.Pages.{at, start, gap, seal, before, before-length, by-heap, slots-in}
-use Rattle.page.proofs.Parsed.{entries-count, image-is, form-is, fit-is}
+use Rattle.page.proofs.Parsed.{entries-count, sound-parts, image-is, form-is, fit-is}
 use Rattle.page.proofs.Walked.{runs, goes}
 use Rattle.page.proofs.Laid.{header-passes, seal-passes, start-at}
 use Rattle.page.proofs.Passed.{keys-run, passed-sound}
@@ -41,9 +41,9 @@ module _ (says : Says) (b : List ℕ) (bs : Bytes b) (len : length b ≡ 512) (l
       ap (λ (i : ℕ). walks says b (word b 0) (getD b 8 0) (upper p) i true 72 508 (fieldAt b 20)) (sym (entries-count b)) ∙ g
 
 sound-check : (says : Says) (b : List ℕ) → Bytes b → length b ≡ 512 → isSound says b ≡ true → passes says b ≡ true
-unfolding isSound passes p
+unfolding passes p
 sound-check says b bs len e =
-    let s = and-parts (isLaid b) (isOrdered says (parsePage b)) e in
+    let s = sound-parts says b e in
     let l = s .0 in
     let o = s .1 in
     and-from _ _ (header-passes b bs len l) (and-from _ _ (order-parts says b bs len l o .0) (and-from _ _ (go-back says b bs len l o) (seal-passes b bs len l)))

@@ -65,9 +65,9 @@ module _ (b : List ℕ) (bs : Bytes b) (len : length b ≡ 512) (laid : isLaid b
   from71-in : drop 71 b ≡ 0 ∷ (rest p ++ seal p)
   from71-in = sym (drop-drop 17 54 b) ∙ ap (drop 17) from54-in ∙ drop-at (field 16 (fosterKey (p .foster))) _ 17 (field-length (fosterKey (p .foster)) (fit .fkey))
 
-  marks-back : areFillers b ≡ true
+  fillers-back : areFillers b ≡ true
   unfolding areFillers encodePage pageBody header le2
-  marks-back =
+  fillers-back =
       let a : getD b 9 0 ≡ 0 = ap (λ (l : List ℕ). getD l 9 0) (sym image) in
       let c : getD b 18 0 ≡ 0 = ap (λ (l : List ℕ). getD l 18 0) (sym image) in
       let d : getD b 19 0 ≡ 0 = ap (λ (l : List ℕ). getD l 19 0) (sym image) in
@@ -138,7 +138,7 @@ module _ (b : List ℕ) (bs : Bytes b) (len : length b ≡ 512) (laid : isLaid b
 
   pub header-passes : isHeader b ≡ true
   unfolding isHeader
-  header-passes = and-from _ _ marks-back (and-from _ _ fields-back (and-from _ _ foster-back room-back))
+  header-passes = and-from _ _ fillers-back (and-from _ _ fields-back (and-from _ _ foster-back room-back))
 
   pub start-at : half b 16 ≡ start (parsePage b)
   unfolding p

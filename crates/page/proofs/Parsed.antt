@@ -12,10 +12,11 @@ use Rattle.std.specs.declared.option.Option.the-variants.{Some, None}
 use Rattle.std.proofs.shelf.Equals.{sameBytes-decides}
 use Rattle.std.proofs.shelf.Tests.{and-parts, and-from, eq-eqb, ne-eqb, le-leb, cases-eq}
 use Rattle.field.specs.Fields.{half}
+use Rattle.order.specs.Lawful.{Says}
 use Rattle.seal.specs.Laws.{Bytes}
 use Rattle.page.specs.Content.{Foster, fosterKey, fosterChild}
 use Rattle.page.specs.Image.{after, entryOf, entriesAt, fosterOf, parsePage, encodePage}
-use Rattle.page.specs.Form.{isChild, isFoster, isForm, isLaid}
+use Rattle.page.specs.Form.{isChild, isFoster, isForm, isOrdered, isLaid, isSound}
 use Rattle.page.specs.Laws.{Kinded, AllKinded, Fits}
 use Rattle.page.proofs.Standing.{any-word, bytes-drop}
 use Rattle.page.proofs.Pages.{Fit, Formed, formed, fit}
@@ -77,6 +78,10 @@ pub foster-apart : (own : ℕ) (k : List ℕ) (c : ℕ) → (c ≡ 0 → ⊥) �
 unfolding isFoster isChild
 foster-apart own k c n h =
     and-parts (not (eqb c 0)) _ (and-parts (leb (length k) 16) _ (ap (isFoster own) (sym (foster-some k c n)) ∙ h) .1) .1
+
+pub sound-parts : (says : Says) (b : List ℕ) → isSound says b ≡ true → (isLaid b ≡ true) × (isOrdered says (parsePage b) ≡ true)
+unfolding isSound
+sound-parts says b sound = and-parts (isLaid b) (isOrdered says (parsePage b)) sound
 
 pub form-of : (b : List ℕ) → isLaid b ≡ true → isForm (parsePage b) ≡ true
 unfolding isLaid

@@ -98,7 +98,7 @@ module _ (says : Says) (b : List ℕ) (bs : Bytes b) (len : length b ≡ 512) wh
       (field-in b 20 (omega arith) (f1 .0)) (bound-in b 37 (omega arith) (f2 .0) .0) (field-in b 54 (omega arith) (f2 .1) ∙ ap (λ (k : List ℕ). field 16 k ++ drop 71 b) key) (one-there 71 72 refl (omega arith) (m3 .1))
 
   record Facts : Type 0 where
-    marks : areFillers b ≡ true
+    fillers : areFillers b ≡ true
     fields : areFields b ≡ true
     foster : isFosterAt b ≡ true
     above : leb (72 + 2 * n) st ≡ true
@@ -121,7 +121,7 @@ module _ (says : Says) (b : List ℕ) (bs : Bytes b) (len : length b ≡ 512) wh
       let r2 = and-parts (cond (eqb (half b 10) 0) (eqb (getD b 8 0) 0) true) _ (r .1) in
       let f = and-parts (areFences says (parsePage b)) _ (a .1) in
       let g = and-parts (walksAll says b) (isSealed b) (f .1) in
-      record { marks = h .0; fields = i .0; foster = o .0; above = r1 .0; below = r1 .1; some = r2 .0; blank = r2 .1; fences = f .0; going = g .0; sealing = g .1 }
+      record { fillers = h .0; fields = i .0; foster = o .0; above = r1 .0; below = r1 .1; some = r2 .0; blank = r2 .1; fences = f .0; going = g .0; sealing = g .1 }
 
   module _ (f : Facts) where
     walked : Went says b (word b 0) (getD b 8 0) (upper p) n true 72 508 (fieldAt b 20)
@@ -146,7 +146,7 @@ module _ (says : Says) (b : List ℕ) (bs : Bytes b) (len : length b ≡ 512) wh
         regrouped b (header p (lastOr 508 (places 508 (parsePage b .entries)))) (slots (places 508 (parsePage b .entries)))
         (replicate (lastOr 508 (places 508 (parsePage b .entries)) - (72 + 2 * length (parsePage b .entries))) 0) (heap (parsePage b .entries) []) (drop 508 b)
         (drop 72 b) (drop (72 + 2 * half b 10) b) (drop (half b 16) b)
-        (header-in (f .marks) (f .fields) (f .foster) ∙ ap (λ (i : ℕ). header p i ++ drop 72 b) (sym s))
+        (header-in (f .fillers) (f .fields) (f .foster) ∙ ap (λ (i : ℕ). header p i ++ drop 72 b) (sym s))
         (walked .slotted)
         (g ∙ ap₂ {C = List ℕ} (λ (i j : ℕ). replicate (i - (72 + 2 * j)) 0 ++ drop (half b 16) b) (sym s) (sym c))
         heap-in

@@ -1,7 +1,7 @@
 -- The way through the slots: what its tests see is what the image of the entries is.
 use mathlib.Core.Path.{_≡_, refl, sym, ap, ap₂, subst, _∙_}
 use mathlib.Core.Bool.{Bool, true, false, _&&_}
-use mathlib.Core.List.{List, [], _∷_, _++_, append-assoc, append-nil}
+use mathlib.Core.List.{List, [], _∷_, _++_, append-assoc}
 use Prim.Native.Nat.{ℕ, zero, suc, _+_, _-_, _*_, _^_, _<_, _≤_}
 use native.Mathlib.Omega.{arith}
 use lib.Dec.{eqb}
@@ -19,8 +19,8 @@ use Rattle.page.specs.Image.{entryBytes, entryOf, entriesAt, places, slots, he
 use Rattle.page.specs.Form.{isEntry, areEntries, isRising}
 use Rattle.page.specs.Laws.{AllKinded}
 use Rattle.page.specs.Walk.{endsAt, isNext, walks}
-use Rattle.page.proofs.Standing.{word-in, half-in, half-at, bytes-drop}
-use Rattle.page.proofs.Entries.{entry-back, heap-below}
+use Rattle.page.proofs.Standing.{word-in, half-in, bytes-drop}
+use Rattle.page.proofs.Entries.{entry-back, step}
 
 -- what is taken is as long as asked where something is left
 take-full : (n : ℕ) (xs : List ℕ) → 0 < length (drop n xs) → length (take n xs) ≡ n
@@ -152,20 +152,10 @@ module _ (says : Says) (b : List ℕ) (bs : Bytes b) (len : length b ≡ 512) (o
   unfolding slots places heap le2 lastOr areEntries runs walks
   goes [] first pre below more slot end previous k s h n f l fo ru = and-from _ _ (eq-eqb end (half b 16) l) ru
   goes (e ∷ es) first pre below more slot end previous (k, ks) s h n f l fo ru =
-      let x : List ℕ = entryBytes e in
-      let at : ℕ = end - length x in
-      let size : length (heap es (x ++ [])) ≡ length (heap es []) + length x =
-      ap length (heap-below es (x ++ []) ∙ ap (λ (y : List ℕ). heap es [] ++ y) (append-nil x)) ∙ length-append (heap es []) x in
-      let n′ : length pre + length (heap es []) ≡ at = omega arith in
-      let ends : at + length x ≡ end = omega arith in
-      let split : b ≡ (pre ++ heap es []) ++ (x ++ below) =
-      h ∙ ap (λ (y : List ℕ). pre ++ y) (heap-below es (x ++ below)) ∙ sym (append-assoc pre (heap es []) (x ++ below)) in
-      let here : drop at b ≡ x ++ below =
-      ap (drop at) split ∙ drop-at (pre ++ heap es []) (x ++ below) at (length-append pre (heap es []) ∙ n′) in
-      let f′ : at < 2 ^ 16 = omega arith in
-      let slot-is : half b slot ≡ at = half-at b (slots (places at es) ++ more) slot at f′ s in
-      let next : drop (slot + 2) b ≡ slots (places at es) ++ more = sym (drop-drop 2 slot b) ∙ ap (drop 2) s in
+      let w = step b pre below more e es slot end s h n f in
+      let at : ℕ = end - length (entryBytes e) in
       let fp = and-parts (isEntry own e) (areEntries own es) fo in
       let rp = and-parts (isNext first level (says previous (keyIn e))) (isRising says bound (keyIn e) es) ru in
-      go-step (length es) first slot end at previous e slot-is (ap (entryOf level) here ∙ entry-back level e below k) ends (fp .0) (rp .0)
-      (goes es false pre (x ++ below) more (slot + 2) at (keyIn e) ks next h n′ f′ l (fp .1) (run-on says level bound (keyIn e) es ∙ rp .1))
+      go-step (length es) first slot end at previous e (w .place) (ap (entryOf level) (w .here) ∙ entry-back level e below k) (w .ends) (fp .0) (rp .0)
+      (goes es false pre (entryBytes e ++ below) more (slot + 2) at (keyIn e) ks (w .next) h (w .room) (w .fits) l (fp .1)
+      (run-on says level bound (keyIn e) es ∙ rp .1))

@@ -25,7 +25,7 @@ abbrev pub AllKinded : ℕ → List Entry → Type 0
 AllKinded level [] = Unit {0}
 AllKinded level (e ∷ es) = Kinded level e × AllKinded level es
 
--- the numbers of a content fit their places, and its entries are of one kind
+-- numbers of 32 bits, and entries of the kind that the level has
 pub record Fits (p : Content) : Type 0 where
   pub number : p .number < 2 ^ 32
   pub lsn : p .lsn < 2 ^ 32

@@ -2,15 +2,14 @@ use mathlib.Core.Bool.{Bool, cond}
 use mathlib.Core.Path.{refl, sym, ap, _∙_}
 use Rattle.std.specs.declared.option.Option.{Option}
 use Rattle.std.specs.declared.option.Option.the-variants.{Some, None}
-use Rattle.std.proofs.shelf.Tests.{and-parts}
 use Rattle.page.specs.Content.{Content}
-use Rattle.page.specs.Form.{isLaid, isSound, decodePage}
+use Rattle.page.specs.Form.{decodePage}
 use Rattle.page.specs.Image.{parsePage}
+use Rattle.page.proofs.Parsed.{sound-parts}
 use Rattle.page_view.proofs.page.Page.new.Needs as need
 
 pub ghost-result : need.ghost-result
-unfolding isSound
-ghost-result g c = (and-parts (isLaid (c .args .image)) _ (sym (c .check .ensures) ∙ c .if-check .taken) .0, tt)
+ghost-result g c = (sound-parts (g .O·KeyOrder .says) (c .args .image) (sym (c .check .ensures) ∙ c .if-check .taken) .0, tt)
 
 pub returns-then-check : need.returns-then-check
 unfolding decodePage
