@@ -19,11 +19,11 @@ use page_view::PageView;
 pub fn cost(page: PageView<'_>) -> usize
     ensures { λ r. ⌜ r ≡ costs (parsePage (now (page .entry .image)) .entries) ⌝ }
 {
-    let mut spent = 0;
+    let mut sum = 0;
     for i in 0..page.count() {
-        spent += 2 + page.entry(i).len();
+        sum += 2 + page.entry(i).len();
     }
-    spent
+    sum
 }
 
 // The slot whose key divides a page: the entries before it are the fewest that cost at least half of all.

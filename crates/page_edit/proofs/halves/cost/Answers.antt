@@ -9,9 +9,9 @@ use Rattle.page_build.proofs.Filling.{costs-more, costs-none}
 use Rattle.page_edit.proofs.Keeping.{room}
 use Rattle.page_edit.proofs.halves.cost.Needs as need
 
-pub add-spent-in-loop-i : need.add-spent-in-loop-i
+pub add-sum-in-loop-i : need.add-sum-in-loop-i
 unfolding entryAt
-add-spent-in-loop-i c =
+add-sum-in-loop-i c =
     let es : List Entry = parsePage (c .args .page .image .now) .entries in
     let h : c .loop-i .i < length es = omega (arith, c .count-i-end .ensures .value) in
     let m = costs-more es (c .loop-i .i) (c .entry .result .now) h (c .entry .ensures) in

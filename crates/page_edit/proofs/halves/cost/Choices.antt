@@ -6,4 +6,4 @@ use Rattle.page.specs.Image.{parsePage}
 use Rattle.page_edit.proofs.halves.cost.Given as given
 
 abbrev pub Inv-loop-i : given.InvT-loop-i
-Inv-loop-i l = l .spent + costs (drop (l .i) (parsePage (l .page .image .now) .entries)) ≡ costs (parsePage (l .page .image .now) .entries)
+Inv-loop-i l = l .sum + costs (drop (l .i) (parsePage (l .page .image .now) .entries)) ≡ costs (parsePage (l .page .image .now) .entries)

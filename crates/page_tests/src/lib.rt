@@ -1,0 +1,5 @@
+// Pages edited at their edges, in byte order.
+#[cfg(test)]
+mod checked;
+#[cfg(test)]
+mod edits;
