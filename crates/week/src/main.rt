@@ -1,7 +1,16 @@
-// One label size through a week. So far: the label table in log records and in a leaf, both sealed.
+// One label size through a week. So far: the label table goes to a log, and then to a leaf on a card.
+use device::Card;
+use device::CardDevice;
+use device::PageDevice;
+use device::ReadAnswer;
 use field::Key;
 use field::Value;
 use label::LabelSize;
+use log::AppendAnswer;
+use log::Log;
+use log::RecordAnswer;
+use log::SlotLog;
+use log::SlotLogLog;
 use order::ByteKeyOrder;
 use order::ByteOrder;
 use page::check;
@@ -69,18 +78,30 @@ fn show_line(rt: &impl Print, key: &[u8], value: &[u8]) -> Result<(), AnyError> 
     show_text(rt, value)
 }
 
-fn show_record(rt: &impl Print, line: &Line, position: u32) -> Result<(), AnyError> {
-    let image = Record::Put {
+// Appends the line's put to the log, which gives it its position, and tells that.
+fn log_line(
+    rt: &impl Print,
+    log: &mut SlotLog<'_>,
+    previous: u32,
+    line: &Line,
+) -> Result<Option<u32>, AnyError> {
+    let record = Record::Put {
         page: 0,
-        previous: position.saturating_sub(1),
+        previous,
         key: line.key,
         value: line.value,
-    }.to_bytes(position);
+    };
+    let AppendAnswer::Added(position) = log.append(&record.to_bytes(0)) else {
+        return Ok(None);
+    };
     print!(rt, "  {position}: put ")?;
     show_line(rt, line.key.bytes(), line.value.bytes())?;
-    let [s0, s1, s2, s3] = [image[124], image[125], image[126], image[127]];
-    println!(rt, ", sealed {s0:02x} {s1:02x} {s2:02x} {s3:02x}")?;
-    Ok(())
+    if let RecordAnswer::Record(image) = log.read(position) {
+        let [s0, s1, s2, s3] = [image[124], image[125], image[126], image[127]];
+        print!(rt, ", sealed {s0:02x} {s1:02x} {s2:02x} {s3:02x}")?;
+    }
+    println!(rt, "")?;
+    Ok(Some(position))
 }
 
 // The leaf with one line more, if it is a page in byte order and has room.
@@ -116,39 +137,76 @@ fn show_leaf(rt: &impl Print, image: &[u8; 512]) -> Result<(), AnyError> {
     }
 }
 
+// Each line goes to the log first, then the changed leaf to page 0 of the card.
+fn store_table(
+    rt: &LibcRuntime,
+    log: &mut SlotLog<'_>,
+    card: &mut Card<'_>,
+) -> Result<(), AnyError> {
+    let AppendAnswer::Added(mut position) = log.append(&Record::Format.to_bytes(0)) else {
+        return Err("the log has no room".into());
+    };
+    let mut leaf = format(position);
+    card.write(0, &leaf);
+    for size in &TABLE {
+        let Some(line) = line_of(rt.alloc(), *size)? else {
+            return Err("a line does not fit".into());
+        };
+        let Some(next) = log_line(rt, log, position, &line)? else {
+            return Err("the log has no room".into());
+        };
+        position = next;
+        let Some(changed) = with_line(&leaf, position, &line.key.key, &line.value) else {
+            return Err("the leaf has no room".into());
+        };
+        leaf = changed;
+        card.write(0, &leaf);
+    }
+    Ok(())
+}
+
+fn show_card(rt: &impl Print, card: &mut Card<'_>) -> Result<(), AnyError> {
+    if let ReadAnswer::Bytes(leaf) = card.read(0) {
+        show_leaf(rt, &leaf)
+    } else {
+        println!(rt, "  page 0 cannot be read")?;
+        Ok(())
+    }
+}
+
+// Changes one bit of byte 503 of page 0.
+fn harm(card: &mut Card<'_>) {
+    if let ReadAnswer::Bytes(mut leaf) = card.read(0) {
+        leaf[503] ^= 2;
+        card.write(0, &leaf);
+    }
+}
+
 fn run(rt: &LibcRuntime) -> Result<(), AnyError> {
+    let mut slots = [0; 1024];
+    let mut pages = [0; 2048];
+    let mut log = SlotLog::new(&mut slots);
+    let mut card = Card::new(&mut pages);
     println!(
         rt,
         "Label sizes in millimetres, and bitmap bytes at eight dots to the millimetre."
     )?;
     println!(
         rt,
-        "Each line as a log record, at its position behind the format of page 0:"
+        "Each line goes to the log, behind the format of page 0:"
     )?;
-    let mut leaf = format(1);
-    let mut position = 2;
-    for size in &TABLE {
-        let Some(line) = line_of(rt.alloc(), *size)? else {
-            return Err("a line does not fit".into());
-        };
-        show_record(rt, &line, position)?;
-        let Some(next) = with_line(&leaf, position, &line.key.key, &line.value) else {
-            return Err("the leaf has no room".into());
-        };
-        leaf = next;
-        position = position.saturating_add(1);
-    }
-    println!(rt, "The leaf that these records make:")?;
-    show_leaf(rt, &leaf)?;
-    leaf[503] ^= 2;
+    store_table(rt, &mut log, &mut card)?;
+    println!(rt, "and then to the card, whose page 0 holds by now:")?;
+    show_card(rt, &mut card)?;
+    harm(&mut card);
     println!(
         rt,
         "One bit of byte 503 changed, which makes the third buffer too short:"
     )?;
-    show_leaf(rt, &leaf)?;
-    leaf[503] ^= 2;
+    show_card(rt, &mut card)?;
+    harm(&mut card);
     println!(rt, "The bit changed back:")?;
-    show_leaf(rt, &leaf)
+    show_card(rt, &mut card)
 }
 
 fn main(rt: LibcRuntime) -> Result<(), AnyError> {

@@ -1,0 +1,5 @@
+pub mod Outcomes
+pub mod Parts
+pub mod Cards
+pub mod Mirrors
+pub mod Repairs

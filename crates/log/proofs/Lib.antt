@@ -1,0 +1,4 @@
+pub mod Outcomes
+pub mod Stamps
+pub mod Rows
+pub mod Memories
