@@ -1,8 +1,12 @@
-// Decodes the pages of a list of vectors, and compares each part with the content that its line tells.
+// Decodes the pages of a list of vectors, compares each part with the content that its line tells, and builds the page again.
 // A line has 512 bytes in hexadecimal, and then `refused`, or number, LSN, level, low fence, high fence, foster key, foster
 // child, and the entries: key and value in a leaf, key and child in a branch. `-` is an empty string, and `*` no bound.
 use order::ByteKeyOrder;
 use order::ByteOrder;
+use page_build::Header;
+use page_build::Spliced;
+use page_build::SplicedRow;
+use page_build::fitted;
 use page_view::Page;
 use page_view::PageView;
 use std::io;
@@ -26,7 +30,7 @@ fn main(rt: LibcRuntime) -> io::Result<()> {
             Outcome::Otherwise => otherwise = otherwise.saturating_add(1),
         }
     }
-    println!(rt, "decoded as told: {decoded}")?;
+    println!(rt, "decoded as told, and built again: {decoded}")?;
     println!(rt, "refused as told: {refused}")?;
     println!(rt, "otherwise: {otherwise}")
 }
@@ -38,7 +42,7 @@ fn tried(line: &str) -> Outcome {
     };
     match Page::new(&ByteOrder, image) {
         Some(page) => {
-            if is_told(page.view(), words) {
+            if is_told(page.view(), words) && is_built_again(page.view(), &image) {
                 Outcome::Decoded
             } else {
                 Outcome::Otherwise
@@ -70,6 +74,21 @@ fn is_told(page: PageView<'_>, mut words: SplitWhitespace<'_>) -> bool {
         None => (None, 0),
     };
     is_bound(foster, key) & is_number(words.next(), child) && are_entries_told(page, words)
+}
+
+// Header and entries make the same image again.
+fn is_built_again(page: PageView<'_>, image: &[u8; 512]) -> bool {
+    let n = page.count();
+    let row = Spliced {
+        old: page,
+        keep: n,
+        fresh: None,
+        resume: n,
+    };
+    match fitted(&Header::of(page, page.lsn()), &row) {
+        Some(again) => again == *image,
+        None => false,
+    }
 }
 
 fn are_entries_told(page: PageView<'_>, mut words: SplitWhitespace<'_>) -> bool {

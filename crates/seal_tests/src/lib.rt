@@ -200,31 +200,32 @@ mod tests {
         Ok(())
     }
 
+    // Whether a block passes with any one bit changed.
+    fn passes_with_a_bit_changed(block: &mut [u8]) -> bool {
+        for i in 0..block.len() {
+            for bit in 0..8u32 {
+                block[i] ^= 1 << bit;
+                if is_sealed(block) {
+                    return true;
+                }
+                block[i] ^= 1 << bit;
+            }
+        }
+        false
+    }
+
     #[test]
     fn every_flipped_bit_of_a_sealed_block_is_refused() -> Result<(), Fail> {
         let mut record = [0u8; 128];
         noise(&mut record);
         seal_128(&mut record);
         check(is_sealed(&record))?;
-        for i in 0..128usize {
-            for bit in 0..8u32 {
-                let mut harmed = record;
-                harmed[i] = record[i] ^ 1 << bit;
-                check(!is_sealed(&harmed))?;
-            }
-        }
+        check(!passes_with_a_bit_changed(&mut record))?;
         let mut page = [0u8; 512];
         noise(&mut page);
         seal_512(&mut page);
         check(is_sealed(&page))?;
-        for i in 0..512usize {
-            for bit in 0..8u32 {
-                let mut harmed = page;
-                harmed[i] = page[i] ^ 1 << bit;
-                check(!is_sealed(&harmed))?;
-            }
-        }
-        Ok(())
+        check(!passes_with_a_bit_changed(&mut page))
     }
 
     #[test]
