@@ -5,7 +5,7 @@ use lib.Bits.{bit_xor, xor_lt}
 use Rattle.std.proofs.lemmas.Nat.{shr-shr, div_below}
 use Rattle.std.proofs.lemmas.List.FromFn.{fill_by_all}
 use Rattle.std.proofs.lemmas.List.{length-append, take_at, drop_at, take-append-drop, get_or-drop}
-use Rattle.std.proofs.lemmas.Bool.{and_parts, and_from, leb_true, le-leb, eqb-true, eq-eqb}
+use Rattle.std.proofs.lemmas.Bool.{and_parts, and_from, leb-true, le-leb, eqb-true, eq-eqb}
 use Rattle.seal.specs.Crc.{bit_step, steps, byte_step, run, crc}
 use Rattle.seal.specs.Seal.{le4, number4, sealed, seal_of, body_of}
 use Rattle.seal.specs.Laws.{Bytes, SealedPasses, PassingIsSealed}
@@ -75,7 +75,7 @@ sealed_passes body w =
 pub passing_is_sealed : PassingIsSealed
 passing_is_sealed block w h =
     let tests = and_parts (leb 4 (length block)) (eqb (number4 (seal_of block)) (crc (body_of block))) h in
-    let long : 4 ≤ length block = leb_true 4 (length block) tests.0 in
+    let long : 4 ≤ length block = leb-true 4 (length block) tests.0 in
     let at : ℕ = length block - 4 in
     let same : number4 (seal_of block) ≡ crc (body_of block) = eqb-true (number4 (seal_of block)) (crc (body_of block)) tests.1 in
     let size : length (seal_of block) ≡ 4 = length-drop at block ∙ omega arith in

@@ -2,8 +2,8 @@ use Rattle.std.proofs.Common.{◌<◌, length, arith, rules}
 use Rattle.order.proofs.Behind.{behind-length, behind-at}
 use Rattle.order.proofs.row.lent_key.Goals as goal
 
-pub offset-bounds-keys-i : goal.offset-bounds-keys-i
-offset-bounds-keys-i c =
+pub offset_bounds-keys-i : goal.offset_bounds-keys-i
+offset_bounds-keys-i c =
     let within : c.args.i < length c.args.keys.now = omega (arith, behind-length c.args.keys.now) in
     search rules
 

@@ -8,6 +8,6 @@ loop-p-preserved c =
     let y = run-parts c.loop-p.d 8 c.loop-p.y.now in
     let z = run-parts c.loop-p.e 8 c.loop-p.z.now in
     let p = c.in-Some.ensures.cases in
-    let q = c.in-Some-split-first-chunk.ensures.cases in
-    let s = c.in-Some-split-first-chunk-2.ensures.cases in
+    let q = c.in-Some-split_first_chunk.ensures.cases in
+    let s = c.in-Some-split_first_chunk-2.ensures.cases in
     (cc, cc, cc)
