@@ -1,4 +1,6 @@
 // Page devices: what one means, a card over lent bytes, and a mirror of two devices.
+#![tactic(auto)]
+
 ghost use Rattle.std.specs.Prelude.{◌≡◌, length};
 ghost use Rattle.device.specs.Disk.{Disk, gives_sealed, reading, woken};
 ghost use Rattle.device.specs.Writes.{Wrote};

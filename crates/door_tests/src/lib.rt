@@ -1,4 +1,6 @@
 // Runs of devices and logs on examples, under power that fails as scripted.
+#![tactic(auto)]
+
 #[cfg(test)]
 mod device_tests;
 mod failing;

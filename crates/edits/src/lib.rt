@@ -1,4 +1,6 @@
 // What page_edit makes of a page's content is the content of what the tree makes of the page's image: theorems.
+#![tactic(auto)]
+
 ghost use Rattle.edits.specs.Agree.{
   PutIsTheTrees,
   RemoveIsTheTrees,

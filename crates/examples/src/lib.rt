@@ -1,4 +1,6 @@
 // The worked examples, computed from the definitions of the store, and runs that come to what the promises speak of.
+#![tactic(auto)]
+
 ghost use Rattle.examples.specs.Witness.{RunsWithCutsHarmAndLossExist};
 ghost use Rattle.examples.specs.Worked.{WorkedExamples};
 

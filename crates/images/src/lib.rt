@@ -1,4 +1,6 @@
 // What is written of the tree's pages and records is read back: theorems.
+#![tactic(auto)]
+
 ghost use Rattle.images.specs.Checks.{APagePassesExactlyIfNoCheckFails};
 ghost use Rattle.images.specs.Laws.{
   OrdersRankKeys,

@@ -1,4 +1,6 @@
 // Label sizes, and the memory that a printer claims for one.
+#![tactic(auto)]
+
 ghost use Rattle.std.specs.Prelude.{◌≡◌};
 ghost use Rattle.label.specs.Bitmap.{SizesInUse, bitmap_bytes, line};
 

@@ -1,4 +1,6 @@
 // What the store's own changes make of pages can be written: theorems.
+#![tactic(auto)]
+
 ghost use Rattle.neat.specs.Neat.{StartIsTidy, TidyStays, FormatIsTidy, PagesAreWritable, ChangesAreRecorded};
 
 pub fn start_is_tidy()

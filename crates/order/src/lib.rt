@@ -1,4 +1,6 @@
 // Orders of keys, and what rests on their laws alone: finding a key in a row, and fences.
+#![tactic(auto)]
+
 mod byte_order;
 mod facts;
 mod fence;

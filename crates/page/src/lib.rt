@@ -1,4 +1,6 @@
 // Pages of 512 bytes: what they hold, and whether bytes are one, checked in place.
+#![tactic(auto)]
+
 mod bounds;
 mod checked;
 mod entry;

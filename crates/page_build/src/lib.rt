@@ -1,4 +1,6 @@
 // Pages built anew from the entries of old ones.
+#![tactic(auto)]
+
 
 mod alone;
 mod entries;

@@ -1,4 +1,6 @@
 // Pages for callers in C, in byte order: for tests and measurements beside other code.
+#![tactic(auto)]
+
 ghost use Rattle.std.specs.Prelude.{◌≡◌, true, ◌&&◌, length, take, if◌then◌else◌, nat_le};
 ghost use Rattle.order.specs.Orders.{by_byte};
 ghost use Rattle.page.specs.Form.{is_ordered, is_sound};

@@ -1,4 +1,6 @@
 // Pages as log records change them: each edit gives the image of the changed content.
+#![tactic(auto)]
+
 mod halves;
 mod kept;
 mod place;

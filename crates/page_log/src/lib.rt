@@ -1,4 +1,6 @@
 // A log on any page device, one record a page.
+#![tactic(auto)]
+
 mod page_log;
 mod slots;
 

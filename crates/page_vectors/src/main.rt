@@ -1,6 +1,8 @@
 // Decodes the pages of a list of vectors, compares each part with the content that its line tells, and builds the page again.
 // A line has 512 bytes in hexadecimal, and then `refused`, or number, LSN, level, low fence, high fence, foster key, foster
 // child, and the entries: key and value in a leaf, key and child in a branch. `-` is an empty string, and `*` no bound.
+#![tactic(auto)]
+
 use order::ByteOrder;
 use page_build::{EntryRow, Header, Spliced, fitted};
 use page_view::{Page, PageView};

@@ -1,4 +1,6 @@
 // Pages read in place.
+#![tactic(auto)]
+
 mod access;
 mod held;
 mod page;

@@ -1,4 +1,6 @@
 // What the store promises over its runs: over every lawful order of keys, every outcome of failing power, every harm and loss.
+#![tactic(auto)]
+
 ghost use Rattle.model.specs.Promises.{
   GetAnswersTheLastStandingPut,
   NextGivesTheLeastPresentKeyAbove,

@@ -1,4 +1,6 @@
 // Every lawful order of keys compares numbers: how many keys are less.
+#![tactic(auto)]
+
 ghost use Rattle.ranks.specs.Ranks.{Told, LawfulComparesRanks};
 
 use order::{KeyOrder, every_order_is_lawful};

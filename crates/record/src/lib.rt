@@ -1,4 +1,6 @@
 // The log record: what it says, and its image of 128 bytes.
+#![tactic(auto)]
+
 mod changes;
 mod codec;
 mod content;

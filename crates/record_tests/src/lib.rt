@@ -1,4 +1,6 @@
 // Records at the edges of their layout.
+#![tactic(auto)]
+
 #[cfg(test)]
 mod tests {
     use field::Value;

@@ -1,4 +1,6 @@
 // Holds records to the images in records.txt, in both directions.
+#![tactic(auto)]
+
 mod hex;
 mod vector;
 

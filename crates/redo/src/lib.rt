@@ -1,4 +1,6 @@
 // One log record applied to the image of the page that it changes.
+#![tactic(auto)]
+
 mod applied;
 mod branches;
 mod halves;

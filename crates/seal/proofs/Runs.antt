@@ -1,9 +1,9 @@
 -- Laws of whole runs: by parts, eight bytes at a time, and in streams joined by linearity.
-use Rattle.std.proofs.Common.{◌≡◌, ℕ, zero, suc, ◌+◌, ◌*◌, ◌/◌, ◌%◌, ◌^◌, ◌<◌, ◌≤◌, List, [], ◌∷◌, ◌++◌, length, get_or, take, drop, sym, refl, ap, ◌∙◌, ap₂, add-one, arith, take-append-drop, drop-cons}
+use Rattle.std.proofs.Common.{◌≡◌, ℕ, suc, ◌+◌, ◌*◌, ◌<◌, ◌≤◌, List, [], ◌∷◌, ◌++◌, length, get_or, take, drop, sym, refl, ap, ◌∙◌, ap₂, add-one, arith, take-append-drop, drop-cons}
 use lib.Bits.{bit_xor, xor_assoc, xor_comm, xor_zero_r, xor_shifted}
 use Rattle.std.proofs.lemmas.List.FromFn.{fill_by_all}
 use Rattle.std.proofs.lemmas.List.{drop_all}
-use Rattle.seal.specs.Crc.{bit_step, steps, byte_step, run}
+use Rattle.seal.specs.Crc.{steps, byte_step, run}
 use Rattle.seal.proofs.Steps.{steps_linear, steps-add, steps_shifted}
 
 run-append : (c : ℕ) (xs ys : List ℕ) → run c (xs ++ ys) ≡ run (run c xs) ys

@@ -1,10 +1,10 @@
 -- The rule of all tables at once. A table of steps is linear, so it is spread out from its entries at the powers of two,
 -- which is what the checker computes and compares with the tables of the code.
-use Rattle.std.proofs.Common.{◌≡◌, ℕ, zero, suc, ◌+◌, ◌-◌, ◌*◌, ◌^◌, ◌<◌, ◌≤◌, List, [], ◌∷◌, ◌++◌, map, length, get_or, sym, refl, ap, ◌∙◌, ap₂, inl, inr, one-mul, pow-suc, arith}
+use Rattle.std.proofs.Common.{◌≡◌, ℕ, zero, suc, ◌+◌, ◌-◌, ◌^◌, ◌<◌, List, [], ◌∷◌, ◌++◌, map, length, get_or, sym, refl, ap, ◌∙◌, inl, inr, one-mul, pow-suc, arith}
 use lib.Bits.{bit_xor, xor_shifted}
 use Rattle.std.proofs.lemmas.List.{length-map, length-append, get_or_append_left, get_or-append_right, get_or-map}
 use Rattle.std.proofs.lemmas.Bool.{cases_lt}
-use Rattle.seal.specs.Crc.{bit_step, steps}
+use Rattle.seal.specs.Crc.{steps}
 use Rattle.seal.specs.Tables.{distances, distance}
 use Rattle.seal.proofs.Steps.{steps_linear, steps-zero}
 

@@ -1,6 +1,6 @@
 -- Laws of the bitwise definition: a step is linear over exclusive-or, and bits above the low ones wait their turn.
 -- So the bytes of a word go their ways apart, each with a table of its own.
-use Rattle.std.proofs.Common.{◌≡◌, ℕ, zero, suc, ◌+◌, ◌*◌, ◌/◌, ◌%◌, ◌^◌, ◌<◌, ◌≤◌, sym, refl, ap, ◌∙◌, ap₂, le_of_suc-le-suc, not-suc-le-zero, mod-lt, suc-add, div-add-mod', zero-add, zero-mul, mul-one, arith, pow_pos}
+use Rattle.std.proofs.Common.{◌≡◌, ℕ, zero, suc, ◌+◌, ◌*◌, ◌/◌, ◌%◌, ◌^◌, ◌<◌, sym, refl, ap, ◌∙◌, ap₂, le_of_suc-le-suc, not-suc-le-zero, mod-lt, suc-add, div-add-mod', zero-add, mul-one, pow_pos}
 use native.Mathlib.Nat.{div-eq_of_lt}
 use lib.Bits.{bit_xor, bit_and, xor_shr, xor_mod, xor_assoc, xor_comm, xor_zero_r, xor_shifted, shifted_half, shifted_even, and_mask}
 use Rattle.std.proofs.lemmas.Nat.{shr-shr}

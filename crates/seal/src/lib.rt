@@ -1,4 +1,6 @@
 // CRC32C, and blocks that end in the seal of the bytes before it.
+#![tactic(auto)]
+
 mod block;
 mod checksum;
 mod laws;

@@ -1,4 +1,6 @@
 // CRC32C and seals held to outside vectors, and to the definition run byte by byte.
+#![tactic(auto)]
+
 #[cfg(test)]
 mod tests {
     use seal::{SealError, check_value, crc32c, is_sealed, seal_128, seal_512, seal_block};

@@ -1,4 +1,6 @@
 // The tree without bytes: images of pages, records as changes, the way of a key, and the theorems about them, each on a contract.
+#![tactic(auto)]
+
 ghost use Rattle.tree.specs.Halves.{PagesDivide};
 ghost use Rattle.tree.specs.Log.{ChainsRebuild, LogsSound};
 ghost use Rattle.tree.specs.Plan.{PlansKept};

@@ -1,4 +1,6 @@
 // Logs: what one means, and one in slots of lent memory.
+#![tactic(auto)]
+
 ghost use Rattle.std.specs.Prelude.{◌≡◌, ◌≤◌, length};
 ghost use Rattle.wal.specs.Appends.{Appended};
 ghost use Rattle.wal.specs.Journal.{Journal, measured, reading, woken};

@@ -1,4 +1,6 @@
 // One label size through a week. So far: the label table goes to a log, and then to a leaf on a card.
+#![tactic(auto)]
+
 use anyhow::anyhow;
 use device::{Card, PageDevice, ReadAnswer};
 use field::{Key, Value};

@@ -9,8 +9,8 @@ pub new-page-requires : goal.new-page-requires
 unfolding is_sound
 new-page-requires c = (and_parts (is_laid c.args.image.now) (is_ordered by_byte (parse_page c.args.image.now)) c.requires).0
 
-pub slot-of-sum-requires : goal.slot-of-sum-requires
+pub slot_of-sum-requires : goal.slot_of-sum-requires
 unfolding is_sound
-slot-of-sum-requires c =
+slot_of-sum-requires c =
     subst (λ (x : List ℕ). is_ordered by_byte (parse_page x) ≡ true) (sym c.new-page.ensures)
     (and_parts (is_laid c.args.image.now) (is_ordered by_byte (parse_page c.args.image.now)) c.requires).1

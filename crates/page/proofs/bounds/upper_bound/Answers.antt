@@ -3,13 +3,13 @@ use Rattle.order.specs.Fences.{Bound}
 use Rattle.page.proofs.Heads.{head, upper-high, upper-foster}
 use Rattle.page.proofs.bounds.upper_bound.Goals as goal
 
-pub field-at-requires : goal.field-at-requires
-field-at-requires c = let n = c.told-b in let h = (head c.args.b.now c.told-b c.requires).fkey in omega arith
+pub field_at-requires : goal.field_at-requires
+field_at-requires c = let n = c.told-b in let h = (head c.args.b.now c.told-b c.requires).fkey in omega arith
 
-pub returns-then-word-at-eq0 : goal.returns-then-word-at-eq0
-returns-then-word-at-eq0 c = c.high-fence.ensures ∙ upper-high c.args.b.now c.word-at.result c.word-at.ensures c.if-word-at-eq0.true
+pub returns-then-word_at-eq0 : goal.returns-then-word_at-eq0
+returns-then-word_at-eq0 c = c.high_fence.ensures ∙ upper-high c.args.b.now c.word_at.result c.word_at.ensures c.if-word_at-eq0.true
 
-pub returns-else-word-at-eq0 : goal.returns-else-word-at-eq0
-returns-else-word-at-eq0 c =
-    ap {B = Bound} (λ (k : List ℕ). Some k) c.field-at.ensures
-    ∙ upper-foster c.args.b.now c.word-at.result c.word-at.ensures c.if-word-at-eq0.false
+pub returns-else-word_at-eq0 : goal.returns-else-word_at-eq0
+returns-else-word_at-eq0 c =
+    ap {B = Bound} (λ (k : List ℕ). Some k) c.field_at.ensures
+    ∙ upper-foster c.args.b.now c.word_at.result c.word_at.ensures c.if-word_at-eq0.false

@@ -7,22 +7,22 @@ use Rattle.page.proofs.checked.are_fences.Goals as goal
 pub returns-then-not-below : goal.returns-then-not-below
 returns-then-not-below g c =
     fences_crossed g.O.KeyOrder.says c.args.b.now c.below.result
-    (c.below.ensures ∙ ap₂ {C = Bool} (is_below g.O.KeyOrder.says) c.low-fence-low.ensures c.high-fence-high.ensures) c.if-not-below.true
+    (c.below.ensures ∙ ap₂ {C = Bool} (is_below g.O.KeyOrder.says) c.low_fence-low.ensures c.high_fence-high.ensures) c.if-not-below.true
 
-pub returns-then-word-at-eq0 : goal.returns-then-word-at-eq0
-returns-then-word-at-eq0 g c =
+pub returns-then-word_at-eq0 : goal.returns-then-word_at-eq0
+returns-then-word_at-eq0 g c =
     fences-alone g.O.KeyOrder.says c.args.b.now c.below.result
-    (c.below.ensures ∙ ap₂ {C = Bool} (is_below g.O.KeyOrder.says) c.low-fence-low.ensures c.high-fence-high.ensures) c.if-not-below.false
-    c.word-at.result c.word-at.ensures c.if-word-at-eq0.true
+    (c.below.ensures ∙ ap₂ {C = Bool} (is_below g.O.KeyOrder.says) c.low_fence-low.ensures c.high_fence-high.ensures) c.if-not-below.false
+    c.word_at.result c.word_at.ensures c.if-word_at-eq0.true
 
-pub field-at-key-requires : goal.field-at-key-requires
-field-at-key-requires g c = let n = c.told-b in let h = (head c.args.b.now c.told-b c.requires).fkey in omega arith
+pub field_at-key-requires : goal.field_at-key-requires
+field_at-key-requires g c = let n = c.told-b in let h = (head c.args.b.now c.told-b c.requires).fkey in omega arith
 
 pub returns : goal.returns
 returns g c =
     ap₂ {C = Bool} (λ (x y : Bool). x && y)
-    (c.below-2.ensures ∙ ap₂ {C = Bool} (λ (k l : List ℕ). is_lt (g.O.KeyOrder.says k l)) c.low-fence-low.ensures c.field-at-key.ensures)
-    (c.below-3.ensures ∙ ap₂ {C = Bool} (is_below g.O.KeyOrder.says) c.field-at-key.ensures c.high-fence-high.ensures)
+    (c.below-2.ensures ∙ ap₂ {C = Bool} (λ (k l : List ℕ). is_lt (g.O.KeyOrder.says k l)) c.low_fence-low.ensures c.field_at-key.ensures)
+    (c.below-3.ensures ∙ ap₂ {C = Bool} (is_below g.O.KeyOrder.says) c.field_at-key.ensures c.high_fence-high.ensures)
     ∙ fences-foster g.O.KeyOrder.says c.args.b.now c.below.result
-    (c.below.ensures ∙ ap₂ {C = Bool} (is_below g.O.KeyOrder.says) c.low-fence-low.ensures c.high-fence-high.ensures) c.if-not-below.false
-    c.word-at.result c.word-at.ensures c.if-word-at-eq0.false
+    (c.below.ensures ∙ ap₂ {C = Bool} (is_below g.O.KeyOrder.says) c.low_fence-low.ensures c.high_fence-high.ensures) c.if-not-below.false
+    c.word_at.result c.word_at.ensures c.if-word_at-eq0.false

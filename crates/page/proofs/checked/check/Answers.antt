@@ -6,17 +6,17 @@ use Rattle.page.specs.Walk.{walks_all, passes}
 use Rattle.page.proofs.Exact.{exact}
 use Rattle.page.proofs.checked.check.Goals as goal
 
-pub returns-then-not-is-header : goal.returns-then-not-is-header
+pub returns-then-not-is_header : goal.returns-then-not-is_header
 unfolding passes
-returns-then-not-is-header g c =
+returns-then-not-is_header g c =
     ap (λ (x : Bool). x && (are_fences g.O.KeyOrder.says (parse_page c.args.b.now) && (walks_all g.O.KeyOrder.says c.args.b.now && is_sealed c.args.b.now)))
-    (sym c.if-not-is-header.true ∙ c.is-header.ensures)
+    (sym c.if-not-is_header.true ∙ c.is_header.ensures)
     ∙ exact g.O.KeyOrder.says c.args.b.now c.fits-b c.told-b
 
 pub returns : goal.returns
 unfolding passes
 returns g c =
-    ap₂ {C = Bool} (λ (x y : Bool). x && y) c.are-fences.ensures (ap₂ {C = Bool} (λ (x y : Bool). x && y) c.walks-all.ensures c.is-sealed.ensures)
+    ap₂ {C = Bool} (λ (x y : Bool). x && y) c.are_fences.ensures (ap₂ {C = Bool} (λ (x y : Bool). x && y) c.walks_all.ensures c.is_sealed.ensures)
     ∙ ap (λ (x : Bool). x && (are_fences g.O.KeyOrder.says (parse_page c.args.b.now) && (walks_all g.O.KeyOrder.says c.args.b.now && is_sealed c.args.b.now)))
-    (sym c.if-not-is-header.false ∙ c.is-header.ensures)
+    (sym c.if-not-is_header.false ∙ c.is_header.ensures)
     ∙ exact g.O.KeyOrder.says c.args.b.now c.fits-b c.told-b

@@ -10,61 +10,61 @@ use Rattle.page.proofs.checked.walks_all.Goals as goal
 
 pub loop-i-init : goal.loop-i-init
 loop-i-init g c =
-    (omega arith, go-start g.O.KeyOrder.says c.args.b.now c.word-at-own.result c.low-fence-previous.result.now c.word-at-own.ensures c.low-fence-previous.ensures)
+    (omega arith, go-start g.O.KeyOrder.says c.args.b.now c.word_at-own.result c.low_fence-previous.result.now c.word_at-own.ensures c.low_fence-previous.ensures)
 
-pub half-at-at-requires : goal.half-at-at-requires
-half-at-at-requires g c =
+pub half_at-at-requires : goal.half_at-at-requires
+half_at-at-requires g c =
     let n = c.told-b in
     let h = head c.args.b.now n c.requires in
-    omega (arith, c.half-at-count.ensures.value)
+    omega (arith, c.half_at-count.ensures.value)
 
-pub returns-then-not-ends-at : goal.returns-then-not-ends-at
-returns-then-not-ends-at g c =
+pub returns-then-not-ends_at : goal.returns-then-not-ends_at
+returns-then-not-ends_at g c =
     let b : List ℕ = c.args.b.now in
-    let more : c.loop-i.i < half b 10 = omega (arith, c.half-at-count.ensures.value) in
-    go_unfit g.O.KeyOrder.says b c.word-at-own.result (get_or b 8 0) (upper (parse_page b)) (half b 10) c.loop-i.i c.loop-i.end c.loop-i.previous.now more
-    c.half-at-at.result c.half-at-at.ensures.value c.ends-at.result c.ends-at.ensures c.if-not-ends-at.true
+    let more : c.loop-i.i < half b 10 = omega (arith, c.half_at-count.ensures.value) in
+    go_unfit g.O.KeyOrder.says b c.word_at-own.result (get_or b 8 0) (upper (parse_page b)) (half b 10) c.loop-i.i c.loop-i.end c.loop-i.previous.now more
+    c.half_at-at.result c.half_at-at.ensures.value c.ends_at.result c.ends_at.ensures c.if-not-ends_at.true
     ∙ c.loop-i.invariant.1
 
-pub field-at-key-requires : goal.field-at-key-requires
-field-at-key-requires g c =
+pub field_at-key-requires : goal.field_at-key-requires
+field_at-key-requires g c =
     let b : List ℕ = c.args.b.now in
-    let k = key_of b c.told-b c.word-at-own.result (get_or b 8 0) c.half-at-at.result c.loop-i.end c.loop-i.invariant.0
-    c.ends-at.result c.ends-at.ensures c.if-not-ends-at.false in
+    let k = key_of b c.told-b c.word_at-own.result (get_or b 8 0) c.half_at-at.result c.loop-i.end c.loop-i.invariant.0
+    c.ends_at.result c.ends_at.ensures c.if-not-ends_at.false in
     omega (arith, c.told-b, c.loop-i.invariant.0, k.0)
 
-pub returns-then-not-is-next : goal.returns-then-not-is-next
-returns-then-not-is-next g c =
+pub returns-then-not-is_next : goal.returns-then-not-is_next
+returns-then-not-is_next g c =
     let b : List ℕ = c.args.b.now in
-    let at : ℕ = c.half-at-at.result in
+    let at : ℕ = c.half_at-at.result in
     let n = c.told-b in
-    let more : c.loop-i.i < half b 10 = omega (arith, c.half-at-count.ensures.value) in
-    let k = key_of b n c.word-at-own.result (get_or b 8 0) at c.loop-i.end c.loop-i.invariant.0 c.ends-at.result c.ends-at.ensures c.if-not-ends-at.false in
-    go_unmet g.O.KeyOrder.says b c.word-at-own.result (get_or b 8 0) (upper (parse_page b)) (half b 10) c.loop-i.i c.loop-i.end c.loop-i.previous.now more
-    at c.half-at-at.ensures.value c.ends-at.result c.ends-at.ensures c.if-not-ends-at.false
-    c.field-at-key.result.now (c.field-at-key.ensures ∙ k.1)
-    c.is-next.result c.is-next.ensures c.if-not-is-next.true
+    let more : c.loop-i.i < half b 10 = omega (arith, c.half_at-count.ensures.value) in
+    let k = key_of b n c.word_at-own.result (get_or b 8 0) at c.loop-i.end c.loop-i.invariant.0 c.ends_at.result c.ends_at.ensures c.if-not-ends_at.false in
+    go_unmet g.O.KeyOrder.says b c.word_at-own.result (get_or b 8 0) (upper (parse_page b)) (half b 10) c.loop-i.i c.loop-i.end c.loop-i.previous.now more
+    at c.half_at-at.ensures.value c.ends_at.result c.ends_at.ensures c.if-not-ends_at.false
+    c.field_at-key.result.now (c.field_at-key.ensures ∙ k.1)
+    c.is_next.result c.is_next.ensures c.if-not-is_next.true
     ∙ c.loop-i.invariant.1
 
 pub loop-i-preserved : goal.loop-i-preserved
 loop-i-preserved g c =
     let b : List ℕ = c.args.b.now in
-    let at : ℕ = c.half-at-at.result in
+    let at : ℕ = c.half_at-at.result in
     let n = c.told-b in
-    let more : c.loop-i.i < half b 10 = omega (arith, c.half-at-count.ensures.value) in
-    let k = key_of b n c.word-at-own.result (get_or b 8 0) at c.loop-i.end c.loop-i.invariant.0 c.ends-at.result c.ends-at.ensures c.if-not-ends-at.false in (
+    let more : c.loop-i.i < half b 10 = omega (arith, c.half_at-count.ensures.value) in
+    let k = key_of b n c.word_at-own.result (get_or b 8 0) at c.loop-i.end c.loop-i.invariant.0 c.ends_at.result c.ends_at.ensures c.if-not-ends_at.false in (
       omega (arith, c.loop-i.invariant.0, k.0),
-      go_on g.O.KeyOrder.says b c.word-at-own.result (get_or b 8 0) (upper (parse_page b)) (half b 10) c.loop-i.i c.loop-i.end c.loop-i.previous.now more
-          at c.half-at-at.ensures.value c.ends-at.result c.ends-at.ensures c.if-not-ends-at.false
-          c.field-at-key.result.now (c.field-at-key.ensures ∙ k.1)
-          c.is-next.result c.is-next.ensures c.if-not-is-next.false
+      go_on g.O.KeyOrder.says b c.word_at-own.result (get_or b 8 0) (upper (parse_page b)) (half b 10) c.loop-i.i c.loop-i.end c.loop-i.previous.now more
+          at c.half_at-at.ensures.value c.ends_at.result c.ends_at.ensures c.if-not-ends_at.false
+          c.field_at-key.result.now (c.field_at-key.ensures ∙ k.1)
+          c.is_next.result c.is_next.ensures c.if-not-is_next.false
           ∙ c.loop-i.invariant.1,
     )
 
 pub returns : goal.returns
 returns g c =
     let b : List ℕ = c.args.b.now in
-    let done : half b 10 ≤ c.loop-i.i = omega (arith, c.half-at-count.ensures.value) in
-    go-end g.O.KeyOrder.says b c.word-at-own.result (get_or b 8 0) (upper (parse_page b)) (half b 10) c.loop-i.i c.loop-i.end c.loop-i.previous.now done
-    c.half-at.result c.half-at.ensures.value (lent c.upper-bound.result) c.upper-bound.ensures c.below.result c.below.ensures
+    let done : half b 10 ≤ c.loop-i.i = omega (arith, c.half_at-count.ensures.value) in
+    go-end g.O.KeyOrder.says b c.word_at-own.result (get_or b 8 0) (upper (parse_page b)) (half b 10) c.loop-i.i c.loop-i.end c.loop-i.previous.now done
+    c.half_at.result c.half_at.ensures.value (lent c.upper_bound.result) c.upper_bound.ensures c.below.result c.below.ensures
     ∙ c.loop-i.invariant.1

@@ -19,7 +19,7 @@ returns-then-level-eq0 c =
 pub returns-then-second-end-2 : goal.returns-then-second-end-2
 returns-then-second-end-2 c =
     fits-child c.args.b.now c.requires.size c.args.own c.args.at c.args.end c.from-n.result c.requires.within c.from-n.ensures (omega arith) (omega arith)
-    c.args.level c.if-level-eq0.false c.if-second-end-2.true c.word-at-child.result c.word-at-child.ensures
+    c.args.level c.if-level-eq0.false c.if-second-end-2.true c.word_at-child.result c.word_at-child.ensures
 
 pub returns-else-second-end-2 : goal.returns-else-second-end-2
 returns-else-second-end-2 c =

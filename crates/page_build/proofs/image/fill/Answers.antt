@@ -11,8 +11,8 @@ turn : (all : List Entry) (i : ℕ) (out : List ℕ) (slot at : ℕ) → i < len
     → Filled all (get_or all i (leaf [] []) ∷ drop (i + 1) all) out slot at
 turn all i out slot at h f = subst (λ (l : List Entry). Filled all l out slot at) (left-more all i h) f
 
-pub put-before-at-requires : goal.put-before-at-requires
-put-before-at-requires g c =
+pub put_before-at-requires : goal.put_before-at-requires
+put_before-at-requires g c =
     let all : List Entry = g.R.EntryRow.entries c.args.row.now in
     let h : c.loop-i.i < length all = omega arith in
     let f = turn all c.loop-i.i c.loop-i.out c.loop-i.slot c.loop-i.at h c.loop-i.invariant.1 in
@@ -26,17 +26,17 @@ loop-i-preserved g c =
     let h : c.loop-i.i < length all = omega arith in
     let f = turn all c.loop-i.i c.loop-i.out c.loop-i.slot c.loop-i.at h c.loop-i.invariant.1 in
     let e : Entry = get_or all c.loop-i.i (leaf [] []) in
-    let p = c.put-before-at.ensures in
+    let p = c.put_before-at.ensures in
     let is = c.entry.ensures in
-    let place = subst (λ (x : List ℕ). c.put-before-at.result + length x ≡ c.loop-i.at) is p.place in
-    let below = subst (λ (x : List ℕ). drop c.put-before-at.result c.put-before-at.new.out ≡ x ++ drop c.loop-i.at c.loop-i.out) is p.written in
-    let b = c.to-le-bytes.ensures in
-    let w = subst (λ (x : List ℕ). take (c.loop-i.slot + length x) c.put.new.out ≡ take c.loop-i.slot c.put-before-at.new.out ++ x) b c.put.ensures.written in
-    let r = subst (λ (x : List ℕ). drop (c.loop-i.slot + length x) c.put.new.out ≡ drop (c.loop-i.slot + length x) c.put-before-at.new.out) b c.put.ensures.rest in
-    let n : length c.put.new.out ≡ 512 = omega (arith, f.size, c.put.auto.out, c.put-before-at.auto.out) in (
+    let place = subst (λ (x : List ℕ). c.put_before-at.result + length x ≡ c.loop-i.at) is p.place in
+    let below = subst (λ (x : List ℕ). drop c.put_before-at.result c.put_before-at.new.out ≡ x ++ drop c.loop-i.at c.loop-i.out) is p.written in
+    let b = c.to_le_bytes.ensures in
+    let w = subst (λ (x : List ℕ). take (c.loop-i.slot + length x) c.put.new.out ≡ take c.loop-i.slot c.put_before-at.new.out ++ x) b c.put.ensures.written in
+    let r = subst (λ (x : List ℕ). drop (c.loop-i.slot + length x) c.put.new.out ≡ drop (c.loop-i.slot + length x) c.put_before-at.new.out) b c.put.ensures.rest in
+    let n : length c.put.new.out ≡ 512 = omega (arith, f.size, c.put.auto.out, c.put_before-at.auto.out) in (
       omega (arith, c.loop-i.invariant.0),
-      filled_more all e (drop (c.loop-i.i + 1) all) c.loop-i.out c.put-before-at.new.out c.put.new.out c.loop-i.slot
-          c.loop-i.at c.put-before-at.result f place below p.before w r n,
+      filled_more all e (drop (c.loop-i.i + 1) all) c.loop-i.out c.put_before-at.new.out c.put.new.out c.loop-i.slot
+          c.loop-i.at c.put_before-at.result f place below p.before w r n,
     )
 
 pub returns : goal.returns

@@ -8,12 +8,12 @@ pub returns-in-None : goal.returns-in-None
 returns-in-None c =
     let m : length (listed c.args.fresh) ≡ 0 = ap (λ f. length (listed f)) c.in-None.is in
     let e = count-is (parse_page c.args.old.image.now).entries (listed c.args.fresh) c.args.keep c.args.resume c.count-n.result
-    c.min-kept.result c.saturating-sub-rest.result 0 c.count-n.ensures.value c.min-kept.ensures c.saturating-sub-rest.ensures m in
+    c.min-kept.result c.saturating_sub-rest.result 0 c.count-n.ensures.value c.min-kept.ensures c.saturating_sub-rest.ensures m in
     omega arith
 
 pub returns-in-Some : goal.returns-in-Some
 returns-in-Some c =
     let m : length (listed c.args.fresh) ≡ 1 = ap (λ f. length (listed f)) c.in-Some.is in
     let e = count-is (parse_page c.args.old.image.now).entries (listed c.args.fresh) c.args.keep c.args.resume c.count-n.result
-    c.min-kept.result c.saturating-sub-rest.result 1 c.count-n.ensures.value c.min-kept.ensures c.saturating-sub-rest.ensures m in
+    c.min-kept.result c.saturating_sub-rest.result 1 c.count-n.ensures.value c.min-kept.ensures c.saturating_sub-rest.ensures m in
     omega arith

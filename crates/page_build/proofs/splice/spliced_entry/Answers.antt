@@ -14,8 +14,8 @@ returns-then-i-kept c =
     ∙ ap entry_bytes (front-is (parse_page c.args.old.image.now).entries (listed c.args.fresh) c.args.keep c.args.resume c.count.result
     c.min-kept.result c.args.i (leaf [] []) c.count.ensures.value c.min-kept.ensures c.if-i-kept.true)
 
-pub overflow-add-resume : goal.overflow-add-resume
-overflow-add-resume c =
+pub overflow_add-resume : goal.overflow_add-resume
+overflow_add-resume c =
     let m : length (listed c.args.fresh) ≡ 0 = ap (λ f. length (listed f)) c.in-None.is in
     let w = within_back (parse_page c.args.old.image.now).entries (listed c.args.fresh) c.args.keep c.args.resume c.count.result
     c.min-kept.result c.args.i 0 c.count.ensures.value c.min-kept.ensures m (omega (arith, c.if-i-kept.false)) c.requires in
@@ -36,10 +36,10 @@ returns-in-None c =
     let b = back_is p (listed c.args.fresh) c.args.keep c.args.resume c.count.result c.min-kept.result c.args.i 0 (leaf [] [])
     c.count.ensures.value c.min-kept.ensures m (omega (arith, c.if-i-kept.false)) in
     let z : c.args.resume + (c.args.i - c.min-kept.result) ≡ c.args.resume + (c.args.i - c.min-kept.result - 0) = omega arith in
-    c.entry-in-None.ensures ∙ ap (λ (j : ℕ). entry_bytes (get_or p j (leaf [] []))) z ∙ ap entry_bytes b
+    c.entry_in-None.ensures ∙ ap (λ (j : ℕ). entry_bytes (get_or p j (leaf [] []))) z ∙ ap entry_bytes b
 
-pub overflow-add-resume-else-i-kept-2 : goal.overflow-add-resume-else-i-kept-2
-overflow-add-resume-else-i-kept-2 c =
+pub overflow_add-resume-else-i-kept-2 : goal.overflow_add-resume-else-i-kept-2
+overflow_add-resume-else-i-kept-2 c =
     let m : length (listed c.args.fresh) ≡ 1 = ap (λ f. length (listed f)) c.in-Some.is in
     let w = within_back (parse_page c.args.old.image.now).entries (listed c.args.fresh) c.args.keep c.args.resume c.count.result
     c.min-kept.result c.args.i 1 c.count.ensures.value c.min-kept.ensures m (grind (arith, c.if-i-kept.false, c.if-i-kept-2.false)) c.requires in

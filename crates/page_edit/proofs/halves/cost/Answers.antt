@@ -5,9 +5,9 @@ use Rattle.page_build.proofs.Filling.{costs-more, costs-none}
 use Rattle.page_edit.proofs.Keeping.{room}
 use Rattle.page_edit.proofs.halves.cost.Goals as goal
 
-pub overflow-add-sum-in-loop-i : goal.overflow-add-sum-in-loop-i
+pub overflow_add-sum-in-loop-i : goal.overflow_add-sum-in-loop-i
 unfolding entry_at
-overflow-add-sum-in-loop-i c =
+overflow_add-sum-in-loop-i c =
     let es : List Entry = (parse_page c.args.page.image.now).entries in
     let h : c.loop-i.i < length es = omega (arith, c.count-i-end.ensures.value) in
     let m = costs-more es c.loop-i.i c.entry.result.now h c.entry.ensures in

@@ -14,9 +14,9 @@ loop-i-init c =
     let e = ap (λ (n : ℕ). halfway n 0 es) c.cost-total.ensures in
     (omega arith, omega arith)
 
-pub overflow-add-spent-in-loop-i : goal.overflow-add-spent-in-loop-i
+pub overflow_add-spent-in-loop-i : goal.overflow_add-spent-in-loop-i
 unfolding entry_at
-overflow-add-spent-in-loop-i c =
+overflow_add-spent-in-loop-i c =
     let es : List Entry = (parse_page c.args.page.image.now).entries in
     let h : c.loop-i.i < length es = omega (arith, c.count-i-end.ensures.value) in
     let m = costs-more es c.loop-i.i c.entry.result.now h c.entry.ensures in
@@ -24,9 +24,9 @@ overflow-add-spent-in-loop-i c =
     let r = room c.args.page.image.now c.args.page.laid in
     omega arith
 
-pub overflow-mul-spent : goal.overflow-mul-spent
+pub overflow_mul-spent : goal.overflow_mul-spent
 unfolding entry_at
-overflow-mul-spent c =
+overflow_mul-spent c =
     let es : List Entry = (parse_page c.args.page.image.now).entries in
     let h : c.loop-i.i < length es = omega (arith, c.count-i-end.ensures.value) in
     let m = costs-more es c.loop-i.i c.entry.result.now h c.entry.ensures in

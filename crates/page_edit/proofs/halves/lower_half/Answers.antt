@@ -16,5 +16,5 @@ returns g c =
     let n : length p.entries ≤ c.count.result = omega (arith, c.count.ensures.value) in
     let l = lower-is g.met.O.KeyOrder.itself p.entries rising c.args.slot c.requires.within c.count.result n in
     c.kept.ensures
-    ∙ ap encode_page (headed-lower g.O.KeyOrder.says c.of-h.result c.args.lsn c.args.other p c.slot-key-key.result
-    (entry_key (entry_at p c.args.slot)) (spliced p.entries c.args.slot [] c.count.result) c.of-h.ensures c.slot-key-key.ensures l)
+    ∙ ap encode_page (headed-lower g.O.KeyOrder.says c.of-h.result c.args.lsn c.args.other p c.slot_key-key.result
+    (entry_key (entry_at p c.args.slot)) (spliced p.entries c.args.slot [] c.count.result) c.of-h.ensures c.slot_key-key.ensures l)

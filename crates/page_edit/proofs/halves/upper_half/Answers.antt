@@ -15,5 +15,5 @@ returns g c =
     let rising = ascending g.met.O.KeyOrder.chain (parse_page b) (form_of b c.args.page.laid) c.requires.ordered in
     let l = upper_is g.met.O.KeyOrder.itself p.entries rising c.args.slot c.requires.within in
     c.kept.ensures
-    ∙ ap encode_page (headed-upper g.O.KeyOrder.says c.of-h.result c.args.lsn c.args.other p c.slot-key-key.result
-    (entry_key (entry_at p c.args.slot)) (spliced p.entries 0 [] c.args.slot) c.of-h.ensures c.slot-key-key.ensures l)
+    ∙ ap encode_page (headed-upper g.O.KeyOrder.says c.of-h.result c.args.lsn c.args.other p c.slot_key-key.result
+    (entry_key (entry_at p c.args.slot)) (spliced p.entries 0 [] c.args.slot) c.of-h.ensures c.slot_key-key.ensures l)

@@ -17,8 +17,8 @@ find-requires g c = record {
   short = subst (λ (k : List ℕ). length k ≤ 16) (sym c.bytes.ensures) (key-short c.args.key.now);
 }
 
-pub overflow-add-i : goal.overflow-add-i
-overflow-add-i g c =
+pub overflow_add-i : goal.overflow_add-i
+overflow_add-i g c =
     let f = few c.args.page.image.now c.args.page.laid in
     let l = keys_length (parse_page c.args.page.image.now).entries in
     omega (arith, c.in-Ok.ensures.0)

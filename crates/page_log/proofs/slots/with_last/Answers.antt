@@ -15,7 +15,7 @@ returns-then-eq g c =
     let there = look_finds d _ _ c.requires (omega arith) (omega (arith, c.room.ensures)) c.in-Record.ensures.value in
     record {
       value = last_found d c.args.used _ c.args.last.now there ((slice_eq-Decides Decides-eqb _ _ _ c.eq.ensures).0 c.if-eq.true);
-      same = c.record-at.ensures.same;
+      same = c.record_at.ensures.same;
     }
 
 pub returns-else-eq : goal.returns-else-eq
@@ -24,13 +24,13 @@ returns-else-eq g c =
     let there = look_finds d _ _ c.requires (omega arith) (omega (arith, c.room.ensures)) c.in-Record.ensures.value in
     record {
       value = last-other d c.args.used _ c.args.last.now there (λ same. false≢true (sym c.if-eq.false ∙ (slice_eq-Decides Decides-eqb _ _ _ c.eq.ensures).1 same));
-      same = c.record-at.ensures.same;
+      same = c.record_at.ensures.same;
     }
 
-pub returns-in-default : goal.returns-in-default
-returns-in-default g c =
+pub returns-in_default : goal.returns-in_default
+returns-in_default g c =
     let d = g.D.PageDevice.disk c.args.device.now in
     record {
-      value = last-lost d c.args.used c.args.last.now (look_fails d _ c.record-at.result c.requires (omega arith) (omega (arith, c.room.ensures)) c.record-at.ensures.value c.in-default.not-Record);
-      same = c.record-at.ensures.same;
+      value = last-lost d c.args.used c.args.last.now (look_fails d _ c.record_at.result c.requires (omega arith) (omega (arith, c.room.ensures)) c.record_at.ensures.value c.in_default.not-Record);
+      same = c.record_at.ensures.same;
     }

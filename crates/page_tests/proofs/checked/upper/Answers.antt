@@ -8,8 +8,8 @@ use Rattle.page_tests.proofs.checked.upper.Goals as goal
 pub new-page-requires : goal.new-page-requires
 new-page-requires c = (sound-parts by_byte c.args.image.now (sym c.check.ensures ∙ c.if-check.true)).0
 
-pub upper-half-requires : goal.upper-half-requires
-upper-half-requires c = record {
+pub upper_half-requires : goal.upper_half-requires
+upper_half-requires c = record {
   ordered = subst (λ (x : List ℕ). is_ordered by_byte (parse_page x) ≡ true) (sym c.new-page.ensures)
       (sound-parts by_byte c.args.image.now (sym c.check.ensures ∙ c.if-check.true)).1;
   within = omega (arith, c.count.ensures.value);

@@ -7,26 +7,26 @@ pub bounds-b-at : goal.bounds-b-at
 bounds-b-at c =
     let n = c.told-b in
     let r = key-room c.args.b.now c.fits-b c.requires.laid c.args.i c.requires.slot in
-    omega (arith, c.place-of-at.ensures)
+    omega (arith, c.place_of-at.ensures)
 
-pub overflow-add-result : goal.overflow-add-result
-overflow-add-result c =
+pub overflow_add-result : goal.overflow_add-result
+overflow_add-result c =
     let n = c.told-b in
     let r = key-room c.args.b.now c.fits-b c.requires.laid c.args.i c.requires.slot in
-    let e = c.place-of-at.ensures in
+    let e = c.place_of-at.ensures in
     search rules
 
-pub overflow-add-result-2 : goal.overflow-add-result-2
-overflow-add-result-2 c =
+pub overflow_add-result-2 : goal.overflow_add-result-2
+overflow_add-result-2 c =
     let n = c.told-b in
     let r = key-room c.args.b.now c.fits-b c.requires.laid c.args.i c.requires.slot in
-    let e = c.place-of-at.ensures in
-    let f = c.fits-b c.place-of-at.result in
+    let e = c.place_of-at.ensures in
+    let f = c.fits-b c.place_of-at.result in
     let g = c.from.ensures in
     search rules
 
 pub returns : goal.returns
 unfolding behind_key
 returns c =
-    ap (λ (n : ℕ). c.place-of-at.result + 1 + n) c.from.ensures
-    ∙ ap (λ (j : ℕ). j + 1 + get_or c.args.b.now j 0) c.place-of-at.ensures
+    ap (λ (n : ℕ). c.place_of-at.result + 1 + n) c.from.ensures
+    ∙ ap (λ (j : ℕ). j + 1 + get_or c.args.b.now j 0) c.place_of-at.ensures

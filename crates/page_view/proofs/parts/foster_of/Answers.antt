@@ -7,8 +7,8 @@ use Rattle.page.proofs.Laid.{header-passes}
 use Rattle.page.proofs.Parsed.{foster-none, foster-some}
 use Rattle.page_view.proofs.parts.foster_of.Goals as goal
 
-pub field-at-requires : goal.field-at-requires
-field-at-requires c =
+pub field_at-requires : goal.field_at-requires
+field_at-requires c =
     let n = c.told-b in
     let h = (head c.args.b.now n (header-passes c.args.b.now c.fits-b n c.requires)).fkey in
     omega arith
@@ -17,11 +17,11 @@ pub returns-then-child-eq0 : goal.returns-then-child-eq0
 unfolding parse_page
 returns-then-child-eq0 c =
     let b = c.args.b.now in
-    sym (foster-none (field_at b 54) (word b 12) (sym c.word-at-child.ensures ∙ c.if-child-eq0.true))
+    sym (foster-none (field_at b 54) (word b 12) (sym c.word_at-child.ensures ∙ c.if-child-eq0.true))
 
 pub returns : goal.returns
 unfolding parse_page
 returns c =
     let b = c.args.b.now in
-    ap₂ {C = Option Foster} (λ (k : List ℕ) (n : ℕ). Some (record { key = k; child = n })) c.field-at.ensures c.word-at-child.ensures
-    ∙ sym (foster-some (field_at b 54) (word b 12) (λ z. c.if-child-eq0.false (c.word-at-child.ensures ∙ z)))
+    ap₂ {C = Option Foster} (λ (k : List ℕ) (n : ℕ). Some (record { key = k; child = n })) c.field_at.ensures c.word_at-child.ensures
+    ∙ sym (foster-some (field_at b 54) (word b 12) (λ z. c.if-child-eq0.false (c.word_at-child.ensures ∙ z)))

@@ -7,8 +7,8 @@ find-requires g c = ?
 pub returns-in-Ok : goal.returns-in-Ok
 returns-in-Ok g c = ?
 
-pub returns-in-default : goal.returns-in-default
-returns-in-default g c = ?
+pub returns-in_default : goal.returns-in_default
+returns-in_default g c = ?
 
-pub returns-in-default·2 : goal.returns-in-default·2
-returns-in-default·2 g c = ?
+pub returns-in_default·2 : goal.returns-in_default·2
+returns-in_default·2 g c = ?

@@ -1,6 +1,5 @@
 use Rattle.std.proofs.Common.{◌≡◌, ℕ, length, arith}
 use lib.Bits.{bit_xor}
-use Rattle.seal.specs.Crc.{steps, run}
 use Rattle.seal.proofs.Steps.{by_word}
 use Rattle.seal.proofs.Runs.{run-parts, joined}
 use Rattle.seal.proofs.checksum.chunk.Goals as goal

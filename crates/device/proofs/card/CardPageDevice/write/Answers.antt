@@ -5,7 +5,7 @@ use Rattle.device.proofs.card.CardPageDevice.write.Goals as goal
 pub returns-then-page-self : goal.returns-then-page-self
 returns-then-page-self c =
     record {
-      wrote = rw c.copy-from-slice.ensures.after (page-written c.args.self.now.bytes.now c.args.bytes.now c.args.page _ c.if-page-self.true c.told-bytes (omega arith));
+      wrote = rw c.copy_from_slice.ensures.after (page-written c.args.self.now.bytes.now c.args.bytes.now c.args.page _ c.if-page-self.true c.told-bytes (omega arith));
       lent = refl;
     }
 

@@ -10,12 +10,12 @@ returns-then-page-count g c =
     let b = g.S.PageDevice.disk c.args.self.now.second in
     record { value = read_past a b c.args.page c.if-not-powered.ensures (omega arith); same = refl }
 
-pub returns-then-is-sealed : goal.returns-then-is-sealed
-returns-then-is-sealed g c =
+pub returns-then-is_sealed : goal.returns-then-is_sealed
+returns-then-is_sealed g c =
     let a = g.F.PageDevice.disk c.args.self.now.first in
     let b = g.S.PageDevice.disk c.args.self.now.second in
     record {
-      value = read_first a b c.args.page _ c.if-not-powered.ensures (omega (arith, c.count.ensures)) c.read-first.ensures.value c.if-is-sealed.ensures;
+      value = read_first a b c.args.page _ c.if-not-powered.ensures (omega (arith, c.count.ensures)) c.read-first.ensures.value c.if-is_sealed.ensures;
       same = ap (λ (d : Disk). mirrored d b) c.read-first.ensures.same;
     }
 
@@ -24,6 +24,6 @@ returns g c =
     let a = g.F.PageDevice.disk c.args.self.now.first in
     let b = g.S.PageDevice.disk c.args.self.now.second in
     record {
-      value = read-second a b c.args.page _ _ c.if-not-powered.ensures (omega (arith, c.count.ensures)) c.read-first.ensures.value c.if-is-sealed.ensures c.read.ensures.value;
+      value = read-second a b c.args.page _ _ c.if-not-powered.ensures (omega (arith, c.count.ensures)) c.read-first.ensures.value c.if-is_sealed.ensures c.read.ensures.value;
       same = both-same a _ b _ c.read-first.ensures.same c.read.ensures.same;
     }

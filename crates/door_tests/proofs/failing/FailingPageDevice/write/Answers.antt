@@ -6,5 +6,5 @@ pub returns-in-Some : goal.returns-in-Some
 returns-in-Some g c =
     cut-image _ (g.D.PageDevice.disk c.args.self.now.inner) _ _ _ _ _ c.if-not-powered.ensures (omega (arith, c.count.ensures)) c.in-Some.ensures c.write-in-Some.ensures
 
-pub returns-in-default : goal.returns-in-default
-returns-in-default g c = cut-old _ (g.D.PageDevice.disk c.args.self.now.inner) _ _ c.if-not-powered.ensures (omega (arith, c.count.ensures))
+pub returns-in_default : goal.returns-in_default
+returns-in_default g c = cut-old _ (g.D.PageDevice.disk c.args.self.now.inner) _ _ c.if-not-powered.ensures (omega (arith, c.count.ensures))

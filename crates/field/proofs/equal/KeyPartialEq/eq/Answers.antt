@@ -1,9 +1,15 @@
-use Rattle.std.proofs.lemmas.Slice.Eq.{slice_eq-Decides}
+use Rattle.std.proofs.lemmas.Slice.Eq.{slice_eq-Decides, bytes_eq-Decides}
+use Rattle.std.proofs.lemmas.Bool.Decides.{Decides-eqb}
+use Rattle.std.specs.Bool.{one_answer}
+use Rattle.field.specs.Held.{key_of}
 use Rattle.field.proofs.Fielded.{same-held}
 use Rattle.field.proofs.equal.KeyPartialEq.eq.Goals as goal
-use Rattle.std.proofs.lemmas.Bool.Decides.{Decides-eqb}
 
 pub returns : goal.returns
 returns c =
-    same-held 16 c.args.self.now.image c.args.other.now.image c.eq.result c.args.self.now.padded c.args.other.now.padded
-    (slice_eq-Decides Decides-eqb c.args.self.now.image c.args.other.now.image c.eq.result c.eq.ensures)
+    let same = same-held 16 c.args.self.now.image c.args.other.now.image c.eq.result c.args.self.now.padded c.args.other.now.padded
+    (slice_eq-Decides Decides-eqb c.args.self.now.image c.args.other.now.image c.eq.result c.eq.ensures) in
+    record {
+      eq = one_answer _ _ same (bytes_eq-Decides (key_of c.args.self.now) (key_of c.args.other.now));
+      equals = same;
+    }

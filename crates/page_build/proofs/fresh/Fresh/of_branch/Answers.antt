@@ -8,16 +8,16 @@ pub joined-bytes-requires : goal.joined-bytes-requires
 joined-bytes-requires c =
     let k = field-short 16 c.args.key.now.image c.args.key.now.fits in
     let a = ap length c.prefixed-first.ensures in
-    let b = ap length c.to-le-bytes-second.ensures in
+    let b = ap length c.to_le_bytes-second.ensures in
     omega arith
 
-pub invariant-of-result : goal.invariant-of-result
-invariant-of-result c =
+pub invariant_of-result : goal.invariant_of-result
+invariant_of-result c =
     let k = field-short 16 c.args.key.now.image c.args.key.now.fits in
     let a = ap length c.prefixed-first.ensures in
     let h : c.args.child < 2 ^ 32 = omega arith in
-    let w = branch-bytes (key_of c.args.key.now) c.args.child c.prefixed-first.result.now c.to-le-bytes-second.result
-    c.joined-bytes.result c.prefixed-first.ensures c.to-le-bytes-second.ensures c.joined-bytes.ensures in (
+    let w = branch-bytes (key_of c.args.key.now) c.args.child c.prefixed-first.result.now c.to_le_bytes-second.result
+    c.joined-bytes.result c.prefixed-first.ensures c.to_le_bytes-second.ensures c.joined-bytes.ensures in (
       omega arith,
       (fresh-whole true (branch (key_of c.args.key.now) c.args.child) (length c.prefixed-first.result.now + 4) c.joined-bytes.result h w, tt),
     )
@@ -25,6 +25,6 @@ invariant-of-result c =
 pub returns : goal.returns
 returns c =
     let h : c.args.child < 2 ^ 32 = omega arith in
-    let w = branch-bytes (key_of c.args.key.now) c.args.child c.prefixed-first.result.now c.to-le-bytes-second.result
-    c.joined-bytes.result c.prefixed-first.ensures c.to-le-bytes-second.ensures c.joined-bytes.ensures in
+    let w = branch-bytes (key_of c.args.key.now) c.args.child c.prefixed-first.result.now c.to_le_bytes-second.result
+    c.joined-bytes.result c.prefixed-first.ensures c.to_le_bytes-second.ensures c.joined-bytes.ensures in
     fresh-is true (branch (key_of c.args.key.now) c.args.child) (length c.prefixed-first.result.now + 4) c.joined-bytes.result h w

@@ -13,8 +13,8 @@ joined-bytes-requires c =
     let b = ap length c.prefixed-second.ensures in
     omega arith
 
-pub invariant-of-result : goal.invariant-of-result
-invariant-of-result c =
+pub invariant_of-result : goal.invariant_of-result
+invariant_of-result c =
     let k = field-short 16 c.args.key.now.image c.args.key.now.fits in
     let v = field-short 64 c.args.value.now.image c.args.value.now.fits in
     let a = ap length c.prefixed-first.ensures in

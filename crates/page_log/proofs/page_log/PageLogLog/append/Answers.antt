@@ -27,9 +27,9 @@ returns-in-Done g c =
     let d = g.D.PageDevice.disk log.device in
     let on = c.if-not-powered.ensures in
     record {
-      appended = append-done d _ log.used log.last c.args.bytes.now _ _ on (omega (arith, c.capacity.ensures.value)) c.told-bytes c.fits-bytes c.stamp-self.ensures c.page-of.ensures c.in-Done.ensures;
-      laid = laid_by d _ log.used c.args.bytes.now _ _ _ (omega (arith, c.capacity.ensures.value)) c.stamp-self.ensures c.page-of.ensures c.in-Done.ensures;
-      ends = ends-done d _ log.used log.last c.args.bytes.now _ _ on (omega (arith, c.capacity.ensures.value)) c.told-bytes c.fits-bytes c.stamp-self.ensures c.page-of.ensures c.in-Done.ensures;
+      appended = append-done d _ log.used log.last c.args.bytes.now _ _ on (omega (arith, c.capacity.ensures.value)) c.told-bytes c.fits-bytes c.stamp-self.ensures c.page_of.ensures c.in-Done.ensures;
+      laid = laid_by d _ log.used c.args.bytes.now _ _ _ (omega (arith, c.capacity.ensures.value)) c.stamp-self.ensures c.page_of.ensures c.in-Done.ensures;
+      ends = ends-done d _ log.used log.last c.args.bytes.now _ _ on (omega (arith, c.capacity.ensures.value)) c.told-bytes c.fits-bytes c.stamp-self.ensures c.page_of.ensures c.in-Done.ensures;
     }
 
 pub returns-in-Off : goal.returns-in-Off
@@ -38,7 +38,7 @@ returns-in-Off g c =
     let d = g.D.PageDevice.disk log.device in
     let on = c.if-not-powered.ensures in
     record {
-      appended = append-cut d _ log.used log.last c.args.bytes.now _ _ on (omega (arith, c.capacity.ensures.value)) c.told-bytes c.fits-bytes c.stamp-self.ensures c.page-of.ensures c.in-Off.ensures;
-      laid = laid_by d _ log.used c.args.bytes.now _ _ _ (omega (arith, c.capacity.ensures.value)) c.stamp-self.ensures c.page-of.ensures c.in-Off.ensures;
-      ends = ends-cut d _ log.used log.last c.args.bytes.now _ _ on (omega (arith, c.capacity.ensures.value)) c.told-bytes c.fits-bytes c.stamp-self.ensures c.page-of.ensures c.in-Off.ensures;
+      appended = append-cut d _ log.used log.last c.args.bytes.now _ _ on (omega (arith, c.capacity.ensures.value)) c.told-bytes c.fits-bytes c.stamp-self.ensures c.page_of.ensures c.in-Off.ensures;
+      laid = laid_by d _ log.used c.args.bytes.now _ _ _ (omega (arith, c.capacity.ensures.value)) c.stamp-self.ensures c.page_of.ensures c.in-Off.ensures;
+      ends = ends-cut d _ log.used log.last c.args.bytes.now _ _ on (omega (arith, c.capacity.ensures.value)) c.told-bytes c.fits-bytes c.stamp-self.ensures c.page_of.ensures c.in-Off.ensures;
     }

@@ -24,6 +24,6 @@ returns g c =
     let log = c.args.self.now in
     let d = g.D.PageDevice.disk log.device in
     record {
-      value = c.record-at.ensures.value ∙ read-inside d log.used c.args.position log.last c.if-not-powered.ensures c.if-position-eq0.false (omega arith) (omega (arith, c.capacity.ensures.value));
-      same = ap (λ (e : Disk). page_journal e log.used log.last) c.record-at.ensures.same;
+      value = c.record_at.ensures.value ∙ read-inside d log.used c.args.position log.last c.if-not-powered.ensures c.if-position-eq0.false (omega arith) (omega (arith, c.capacity.ensures.value));
+      same = ap (λ (e : Disk). page_journal e log.used log.last) c.record_at.ensures.same;
     }

@@ -5,8 +5,8 @@ use Rattle.page.specs.Image.{parse_page}
 use Rattle.page.proofs.Parsed.{sound-parts}
 use Rattle.page_view.proofs.page.Page.new.Goals as goal
 
-pub invariant-of-result : goal.invariant-of-result
-invariant-of-result g c = ((sound-parts g.O.KeyOrder.says c.args.image (sym c.check.ensures ∙ c.if-check.true)).0, tt)
+pub invariant_of-result : goal.invariant_of-result
+invariant_of-result g c = ((sound-parts g.O.KeyOrder.says c.args.image (sym c.check.ensures ∙ c.if-check.true)).0, tt)
 
 pub returns-then-check : goal.returns-then-check
 unfolding decode_page

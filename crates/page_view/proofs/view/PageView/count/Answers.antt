@@ -3,4 +3,4 @@ use Rattle.page.proofs.Parsed.{entries-count}
 use Rattle.page_view.proofs.view.PageView.count.Goals as goal
 
 pub returns : goal.returns
-returns c = record { value = c.half-at.ensures.value ∙ sym (entries-count c.args.self.now.image.now); few = c.half-at.ensures.fits }
+returns c = record { value = c.half_at.ensures.value ∙ sym (entries-count c.args.self.now.image.now); few = c.half_at.ensures.fits }

@@ -3,4 +3,4 @@ use Rattle.page_view.proofs.view.PageView.number.Goals as goal
 
 pub returns : goal.returns
 unfolding parse_page
-returns c = c.word-at.ensures
+returns c = c.word_at.ensures

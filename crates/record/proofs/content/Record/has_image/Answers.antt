@@ -7,6 +7,6 @@ use Rattle.record.proofs.content.Record.has_image.Goals as goal
 pub returns : goal.returns
 returns c =
     let b : List ℕ = c.args.b.now in
-    same_from_decides c.eq.result (bytes_eq c.to-bytes.result b) (slice_eq-Decides Decides-eqb c.to-bytes.result b c.eq.result c.eq.ensures)
-    (bytes_eq-Decides c.to-bytes.result b)
-    ∙ ap (λ (l : List ℕ). bytes_eq l b) c.to-bytes.ensures.image
+    same_from_decides c.eq.result (bytes_eq c.to_bytes.result b) (slice_eq-Decides Decides-eqb c.to_bytes.result b c.eq.result c.eq.ensures)
+    (bytes_eq-Decides c.to_bytes.result b)
+    ∙ ap (λ (l : List ℕ). bytes_eq l b) c.to_bytes.ensures.image

@@ -8,9 +8,9 @@ use Rattle.record.proofs.content.Record.image.Goals as goal
 
 pub returns : goal.returns
 returns c =
-    let image : c.to-bytes.result ≡ encode (raw_of c.args.position (content_of c.args.self.now)) =
-    c.to-bytes.ensures.image ∙ ap encode c.of.ensures in
-    let held = content_held c.args.position c.args.self.now (subst FieldsFit c.of.ensures c.to-bytes.ensures.fits) in
+    let image : c.to_bytes.result ≡ encode (raw_of c.args.position (content_of c.args.self.now)) =
+    c.to_bytes.ensures.image ∙ ap encode c.of.ensures in
+    let held = content_held c.args.position c.args.self.now (subst FieldsFit c.of.ensures c.to_bytes.ensures.fits) in
     record {
       image = image;
       reads_back = ap decode_record image ∙ image_reads_back c.args.position (content_of c.args.self.now) held.0 held.1;

@@ -8,7 +8,7 @@ pub returns : goal.returns
 returns c =
     let said : Content = content_of c.args.content.now in
     let page = c.page-page.ensures in
-    let other = c.other-or-none-other.ensures in
+    let other = c.other_or_none-other.ensures in
     raw_same _ _ refl (ap (λ (p : ℕ × ℕ). p.0) page) (ap (λ (p : ℕ × ℕ). p.1) page) (ap (λ (p : ℕ × ℕ). p.0) other) (ap (λ (p : ℕ × ℕ). p.1) other)
-    c.child-field.ensures c.kind.ensures c.key-field.ensures c.value-field.ensures
+    c.child_field.ensures c.kind.ensures c.key_field.ensures c.value_field.ensures
     ∙ by-fields c.args.position said

@@ -21,4 +21,4 @@ returns-then-position-eq0 c =
 pub returns : goal.returns
 returns c =
     read-inside c.args.self.now.memory.now _ c.args.self.now.used c.args.position _ c.if-position-eq0.false (omega arith) (omega (arith, c.room.ensures))
-    c.slot.ensures.value c.record-in.ensures
+    c.slot.ensures.value c.record_in.ensures

@@ -7,7 +7,7 @@ returns c =
     let bs = c.args.self.now.memory.now in
     let rs = c.args.bytes.now in
     let p = c.args.position in
-    let is = c.copy-from-slice.ensures.after ∙ c.stamp.ensures in
+    let is = c.copy_from_slice.ensures.after ∙ c.stamp.ensures in
     record {
       memory = put-memory bs rs _ p _ c.requires.from_one c.requires.within c.told-bytes c.fits-bytes is (omega arith);
       answer = refl;
