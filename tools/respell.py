@@ -26,6 +26,8 @@ GIVEN = {
     "isFull": "is_full",
     "isBound": "is_bound",
 }
+# a lemma of the library, which one file states again
+LEFT = {"leb-true"}
 # the toolchain has a library of this name
 CRATES = {"log": "wal"}
 DECLARED = re.compile(r"^(?P<in>\s*)(?:\(\s*)?(?:(?:abbrev|unfoldable|pub|data|record|instance) )*(?P<names>[A-Za-z][\w'-]*(?: [A-Za-z][\w'-]*)*)(?P<rest> (?:[({].*)?:.*)$")
@@ -119,7 +121,7 @@ def spellings():
             s = snake(n)
         if s != n:
             new[n] = s
-    return kinds, GIVEN | new
+    return kinds, {a: b for a, b in (GIVEN | new).items() if a not in LEFT}
 
 
 def crates():

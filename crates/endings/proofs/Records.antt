@@ -1,6 +1,6 @@
 -- What a record that decodes tells: numbers of 32 bits and keys that are not empty, whatever the log holds.
 use Rattle.std.proofs.Common.{◌≡◌, ℕ, ◌^◌, ◌<◌, Bool, true, false, cond, not, ◌&&◌, eqb, ltb, leb, List, length, get_or, Some, None, Option, refl, ap, subst, arith}
-use Rattle.std.proofs.lemmas.Bool.{and_parts, leb_true, not-true, eqb-false}
+use Rattle.std.proofs.lemmas.Bool.{and_parts, leb-true, not-true, eqb-false}
 use Rattle.field.specs.Fields.{word}
 use Rattle.record.specs.Layout.{Raw, FieldsFit, body, encode, parse}
 use Rattle.record.specs.Contents.{Content, format, put, remove, foster, adopt, grow, raw_of, content_in, measured, decode_record, decode_at}
@@ -30,8 +30,8 @@ image-fits r h =
       other = omega arith;
       other_previous = omega arith;
       child = omega arith;
-      key = string-fits (encode r) 25 16 (leb_true (get_or (encode r) 25 0) 16 s.0);
-      value = string-fits (encode r) 42 64 (leb_true (get_or (encode r) 42 0) 64 s.1);
+      key = string-fits (encode r) 25 16 (leb-true (get_or (encode r) 25 0) 16 s.0);
+      value = string-fits (encode r) 42 64 (leb-true (get_or (encode r) 42 0) 64 s.1);
     }
 
 -- a record is the image of what it says

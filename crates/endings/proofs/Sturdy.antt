@@ -1,7 +1,7 @@
 -- What is made again from a chain can be written and read back, but for numbers that a page may not point to.
 use Rattle.std.proofs.Common.{◌≡◌, ℕ, zero, suc, ◌^◌, ◌<◌, ◌≤◌, Bool, true, false, cond, eqb, ltb, [], length, Some, None, Option, sym, refl, ap, ◌∙◌, subst, arith}
 use Prim.Native.Nat.{Ordering}
-use Rattle.std.proofs.lemmas.Bool.{cond_both, and_parts, leb_true, eqb-true}
+use Rattle.std.proofs.lemmas.Bool.{cond_both, and_parts, leb-true, eqb-true}
 use Rattle.ranks.specs.Lists.{All}
 use Rattle.tree.specs.Rows.{set, without, upto, from}
 use Rattle.tree.specs.Tree.{Image, lower-image, upper-image, gaining-image, ceding-image, risen-image}
@@ -109,7 +109,7 @@ module _ (cmp : Key → Key → Ordering) where
     fosters = s.fosters;
     kids = all_set cmp (λ (i : Key × ℕ). i.1 < 2 ^ 32) k c x.frame.kids h s.kids;
     pairs-room = s.pairs-room;
-    kids-room = leb_true (total kid_cost (set cmp k c x.frame.kids)) 436 (and_parts _ _ (and_parts (in_bounds cmp k x.frame) _ t).1).1;
+    kids-room = leb-true (total kid_cost (set cmp k c x.frame.kids)) 436 (and_parts _ _ (and_parts (in_bounds cmp k x.frame) _ t).1).1;
   }
 
   made_sturdy : (c : Change Key Value) (p : ℕ) (x : Image Key Value) → ok c p x ≡ true → Plain c → Sturdy x → Sturdy (make cmp empty_key c p x)
@@ -124,7 +124,7 @@ module _ (cmp : Key → Key → Ordering) where
         named = all_set cmp (λ (e : Key × Value). 0 < length e.0.bytes) k v x.pairs h s.named;
         fosters = s.fosters;
         kids = s.kids;
-        pairs-room = leb_true (total pair_cost (set cmp k v x.pairs)) 436 b.1;
+        pairs-room = leb-true (total pair_cost (set cmp k v x.pairs)) 436 b.1;
         kids-room = s.kids-room;
       }
   made_sturdy (Remove q k) p x t h s = record {

@@ -1,6 +1,6 @@
 -- A page of bytes that fails none of its checks has an image, and only such a page has one.
 use Rattle.std.proofs.Common.{◌≡◌, ℕ, zero, suc, ◌+◌, ◌<◌, ◌≤◌, Bool, true, false, cond, eqb, ltb, leb, List, [], ◌∷◌, length, get_or, take, drop, Some, None, Option, sym, refl, ap, ◌∙◌, subst, arith}
-use Rattle.std.proofs.lemmas.Bool.{and_parts, and_from, leb_true, lt-ltb}
+use Rattle.std.proofs.lemmas.Bool.{and_parts, and_from, leb-true, lt-ltb}
 use Rattle.seal.specs.Seal.{is_sealed}
 use Rattle.field.specs.Fields.{word, half, field_at}
 use Rattle.page.specs.Content.{Content}
@@ -60,17 +60,17 @@ short-bytes (suc n) (c ∷ s) h l = and_from (ltb c 256) (is_short 256 n s) (lt-
 
 fence_some : (s : List ℕ) → Bytes s → leb (length s) 16 ≡ true → (k : Key) × (fence_of s ≡ Some k)
 fence_some s h l =
-    let k : Key = record { bytes = s; short = short-bytes 16 s h (leb_true (length s) 16 l) } in
+    let k : Key = record { bytes = s; short = short-bytes 16 s h (leb-true (length s) 16 l) } in
     (k, fence_back k)
 
 key-some : (s : List ℕ) → Bytes s → leb 1 (length s) ≡ true → leb (length s) 16 ≡ true → (k : Key) × (key_of s ≡ Some k)
 key-some s h m l =
-    let k : Key = record { bytes = s; short = short-bytes 16 s h (leb_true (length s) 16 l) } in
-    (k, key_back k (leb_true 1 (length s) m))
+    let k : Key = record { bytes = s; short = short-bytes 16 s h (leb-true (length s) 16 l) } in
+    (k, key_back k (leb-true 1 (length s) m))
 
 value-some : (s : List ℕ) → Bytes s → leb (length s) 64 ≡ true → (v : Value) × (value_of s ≡ Some v)
 value-some s h l =
-    let v : Value = record { bytes = s; short = short-bytes 64 s h (leb_true (length s) 64 l) } in
+    let v : Value = record { bytes = s; short = short-bytes 64 s h (leb-true (length s) 64 l) } in
     (v, value_back v)
 
 -- The parts of a page.

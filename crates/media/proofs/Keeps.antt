@@ -1,6 +1,6 @@
 -- What a run keeps of its device and log, where no record is added.
 use Rattle.std.proofs.Common.{◌≡◌, ℕ, ◌<◌, ◌≤◌, min, true, ◌&&◌, leb, List, [], length, get_or, set, Some, sym, refl, ap, ◌∙◌, subst, ap₂, inl, inr, arith, length-set}
-use Rattle.std.proofs.lemmas.Bool.{and_parts, cond_both, ltb-true, leb_true, cases_eq}
+use Rattle.std.proofs.lemmas.Bool.{and_parts, cond_both, ltb-true, leb-true, cases_eq}
 use Rattle.std.proofs.lemmas.List.{get_or-set_same, get_or-set_other}
 use Rattle.order.specs.Lawful.{Says}
 use Rattle.ranks.proofs.Tally.{all_more}
@@ -30,7 +30,7 @@ same-sized w e c n = ap₂ (λ (a b : ℕ). (leb 4 a && leb a 65536) && (leb 8 b
 
 pub sized-capacity : (w : World) → sized w ≡ true → w.journal.capacity ≤ 65536
 unfolding sized
-sized-capacity w h = leb_true w.journal.capacity 65536 (and_parts (leb 8 w.journal.capacity) _ (and_parts _ _ h).1).1
+sized-capacity w h = leb-true w.journal.capacity 65536 (and_parts (leb 8 w.journal.capacity) _ (and_parts _ _ h).1).1
 
 -- what a write leaves of the pages
 pub written-pages : (d : Disk) (p : ℕ) (bs : List ℕ) (f : Fate) (P : ℕ → Page → Type 0) → ((q : ℕ) → P q (page_at d q)) → P p (left_by f (page_at d p) (holds bs))

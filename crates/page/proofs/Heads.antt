@@ -1,7 +1,7 @@
 -- What a header that passed tells the code that reads on.
 use Rattle.std.proofs.Common.{◌≡◌, ℕ, ◌+◌, ◌-◌, ◌*◌, ◌<◌, ◌≤◌, Bool, true, false, cond, not, ◌&&◌, eqb, leb, List, length, get_or, take, drop, Some, None, sym, refl, ap, ◌∙◌, ap₂, arith}
 use Rattle.std.specs.Ordering.{is_lt}
-use Rattle.std.proofs.lemmas.Bool.{and_parts, eq-eqb, ne_eqb, le-leb, lt-leb, leb_true}
+use Rattle.std.proofs.lemmas.Bool.{and_parts, eq-eqb, ne_eqb, le-leb, lt-leb, leb-true}
 use Rattle.field.specs.Fields.{half, word, field_at, are_zeros, is_field}
 use Rattle.order.specs.Fences.{Bound, is_below}
 use Rattle.order.specs.Lawful.{Says}
@@ -33,8 +33,8 @@ head b len e =
       low = (field-short b 20 (omega arith) f1.0).0;
       high = bound-short b 37 (omega arith) f2.0;
       fkey = (field-short b 54 (omega arith) f2.1).0;
-      above = leb_true (72 + 2 * half b 10) (half b 16) r1.0;
-      below = leb_true (half b 16) 508 r1.1;
+      above = leb-true (72 + 2 * half b 10) (half b 16) r1.0;
+      below = leb-true (half b 16) 508 r1.1;
     }
 
 -- fields of bounds

@@ -1,7 +1,7 @@
 -- A content is read back from its image.
 use Rattle.std.proofs.Common.{◌≡◌, ℕ, ◌+◌, ◌-◌, ◌*◌, ◌^◌, ◌<◌, ◌≤◌, Bool, true, false, cond, not, ◌&&◌, eqb, leb, List, [], ◌∷◌, ◌++◌, length, get_or, take, drop, replicate, Some, None, Option, sym, refl, ap, ◌∙◌, ap₂, append_assoc, arith}
 use Rattle.std.proofs.lemmas.List.{take_at, drop_at, drop-drop, get_or_at, length-append, length-replicate}
-use Rattle.std.proofs.lemmas.Bool.{and_parts, leb_true, ne_eqb, not-true}
+use Rattle.std.proofs.lemmas.Bool.{and_parts, leb-true, ne_eqb, not-true}
 use Rattle.field.specs.Fields.{le2, half, word, field, field_at}
 use Rattle.order.specs.Fences.{Bound}
 use Rattle.seal.specs.Crc.{crc}
@@ -33,7 +33,7 @@ foster-whole own None e = (omega arith, refl)
 foster-whole own (Some f) e =
     let s = and_parts (leb (length f.key) 16) _ e in
     let c = and_parts (not (eqb f.child 0)) _ s.1 in
-    (leb_true (length f.key) 16 s.0, ap {B = Option Foster} (λ (t : Bool). cond t None (Some f)) (not-true (eqb f.child 0) c.0))
+    (leb-true (length f.key) 16 s.0, ap {B = Option Foster} (λ (t : Bool). cond t None (Some f)) (not-true (eqb f.child 0) c.0))
 
 -- what a form's tests say
 pub record Formed (p : Content) : Type 0 where
@@ -63,11 +63,11 @@ fit p f e =
       lsn = f.lsn;
       child = f.foster;
       foster = o.1;
-      low = leb_true (length p.low) 16 w.low;
+      low = leb-true (length p.low) 16 w.low;
       high = short_back p.high w.high;
       fkey = o.0;
       kinded = f.kinded;
-      room = leb_true (costs p.entries) 436 w.room;
+      room = leb-true (costs p.entries) 436 w.room;
     }
 
 field_len : (p k z w : List ℕ) (n : ℕ) → length p ≡ n → get_or (p ++ ((length k ∷ (k ++ z)) ++ w)) n 0 ≡ length k

@@ -2,7 +2,7 @@
 use Rattle.std.proofs.Common.{◌≡◌, ℕ, ◌+◌, ◌-◌, ◌*◌, ◌<◌, ◌≤◌, Bool, true, cond, not, ◌&&◌, eqb, leb, List, [], ◌∷◌, ◌++◌, length, get_or, take, drop, replicate, Option, sym, refl, ap, ◌∙◌, ap₂, append_assoc, arith}
 use Rattle.std.proofs.lemmas.Slice.Eq.{bytes_eq-Decides}
 use Rattle.std.proofs.lemmas.List.{take_at, drop-drop, drop_more, length-append, length-take-le, length-drop, take-append-drop}
-use Rattle.std.proofs.lemmas.Bool.{and_parts, and_from, eqb-true, eq-eqb, leb_true, le-leb}
+use Rattle.std.proofs.lemmas.Bool.{and_parts, and_from, eqb-true, eq-eqb, leb-true, le-leb}
 use Rattle.field.specs.Fields.{le2, half, word, field, field_at, are_zeros, is_field}
 use Rattle.order.specs.Fences.{Bound}
 use Rattle.order.specs.Lawful.{Says}
@@ -119,8 +119,8 @@ module _ (says : Says) (b : List ℕ) (bs : Bytes b) (len : length b ≡ 512) wh
   module _ (f : Facts) where
     walked : Went says b (word b 0) (get_or b 8 0) (upper p) n true 72 508 (field_at b 20)
     walked =
-        let a = leb_true (72 + 2 * n) st f.above in
-        let c = leb_true st 508 f.below in
+        let a = leb-true (72 + 2 * n) st f.above in
+        let c = leb-true st 508 f.below in
         went says b bs len (word b 0) (get_or b 8 0) (upper p) n true 72 508 (field_at b 20) (omega arith) (omega arith) f.going
 
     es : List Entry
@@ -135,7 +135,7 @@ module _ (says : Says) (b : List ℕ) (bs : Bytes b) (len : length b ≡ 512) wh
     body-in =
         let c = entries-count b in
         let s : last_or 508 (places 508 (parse_page b).entries) ≡ half b 16 = walked.begins in
-        let g = gap-in b (72 + 2 * half b 10) (half b 16) (leb_true (72 + 2 * n) st f.above) (let c = leb_true st 508 f.below in omega arith) f.blank in
+        let g = gap-in b (72 + 2 * half b 10) (half b 16) (leb-true (72 + 2 * n) st f.above) (let c = leb-true st 508 f.below in omega arith) f.blank in
         regrouped b (header p (last_or 508 (places 508 (parse_page b).entries))) (slots (places 508 (parse_page b).entries))
         (replicate (last_or 508 (places 508 (parse_page b).entries) - (72 + 2 * length (parse_page b).entries)) 0) (heap (parse_page b).entries []) (drop 508 b)
         (drop 72 b) (drop (72 + 2 * half b 10) b) (drop (half b 16) b)
@@ -161,8 +161,8 @@ module _ (says : Says) (b : List ℕ) (bs : Bytes b) (len : length b ≡ 512) wh
     form_in =
         let f1 = and_parts (is_field 16 (take 17 (drop 20 b))) _ f.fields in
         let f2 = and_parts (is_bound_field (take 17 (drop 37 b))) (is_field 16 (take 17 (drop 54 b))) f1.1 in
-        let a = leb_true (72 + 2 * n) st f.above in
-        let c = leb_true st 508 f.below in
+        let a = leb-true (72 + 2 * n) st f.above in
+        let c = leb-true st 508 f.below in
         let hl = ap length heap-in in
         let hm = length-append (heap (parse_page b).entries []) (drop 508 b) in
         let hd = length-drop 508 b in

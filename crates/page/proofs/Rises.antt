@@ -1,7 +1,7 @@
 -- The keys of a page that is in order ascend.
 use Rattle.std.proofs.Common.{◌≡◌, ℕ, zero, suc, ◌<◌, ◌≤◌, true, leb, List, [], ◌∷◌, length, get_or, Some, None, Option, Ordering, Less, Equal, Greater, sym, refl, ap, ◌∙◌, arith}
 use Rattle.std.specs.Ordering.{is_lt, is_le}
-use Rattle.std.proofs.lemmas.Bool.{and_parts, and_from, leb_true, true≢false}
+use Rattle.std.proofs.lemmas.Bool.{and_parts, and_from, leb-true, true≢false}
 use Rattle.order.specs.Fences.{Bound, is_below, is_held}
 use Rattle.order.specs.Lawful.{Says, Chain, Lawful}
 use Rattle.order.specs.Slots.{key_at, Ascending}
@@ -37,8 +37,8 @@ less-is Greater e = absurd (true≢false (sym e))
 
 entry-short : (own : ℕ) (e : Entry) → is_entry own e ≡ true → length (entry_key e) ≤ 16
 unfolding is_entry entry_key
-entry-short own (leaf k v) h = leb_true (length k) 16 (and_parts (leb (length k) 16) _ (and_parts (leb 1 (length k)) _ h).1).0
-entry-short own (branch k c) h = leb_true (length k) 16 (and_parts (leb (length k) 16) _ h).0
+entry-short own (leaf k v) h = leb-true (length k) 16 (and_parts (leb (length k) 16) _ (and_parts (leb 1 (length k)) _ h).1).0
+entry-short own (branch k c) h = leb-true (length k) 16 (and_parts (leb (length k) 16) _ h).0
 
 short : (own : ℕ) (es : List Entry) → are_entries own es ≡ true → (i : ℕ) → i < length (keys_in es) → length (key_at (keys_in es) i) ≤ 16
 unfolding are_entries keys_in
@@ -92,7 +92,7 @@ ascending {says} chain p form o =
 upper_short : (own : ℕ) (high : Bound) (f : Option Foster) → is_short high ≡ true → is_foster own f ≡ true → Short (upper_of high f)
 unfolding upper_of is_foster
 upper_short own high None h e = short_back high h
-upper_short own high (Some f) h e = leb_true (length f.key) 16 (and_parts (leb (length f.key) 16) _ e).0
+upper_short own high (Some f) h e = leb-true (length f.key) 16 (and_parts (leb (length f.key) 16) _ e).0
 
 module _ {says : Says} (laws : Lawful says) (own : ℕ) (bound : Bound) (limit : Short bound) where
   below-lower : (a b : List ℕ) → length a ≤ 16 → length b ≤ 16 → says a b ≡ Less → (u : Bound) → Short u → is_below says b u ≡ true → is_below says a u ≡ true
@@ -158,4 +158,4 @@ keys_held says laws p form o i h =
     let f = formed p form in
     let k = (and_parts (are_fences says p) (are_keys says p.level (upper p) p.low p.entries) o).1 in
     all_held laws p.number (upper p) (upper_short p.number p.high p.foster f.high f.foster) p.level p.low p.entries
-    (leb_true (length p.low) 16 f.low) f.entries k i h
+    (leb-true (length p.low) 16 f.low) f.entries k i h

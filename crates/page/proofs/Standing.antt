@@ -2,7 +2,7 @@
 use Rattle.std.proofs.Common.{◌≡◌, ℕ, zero, suc, ◌+◌, ◌-◌, ◌*◌, ◌/◌, ◌%◌, ◌^◌, ◌<◌, ◌≤◌, Bool, true, false, cond, eqb, leb, List, [], ◌∷◌, ◌++◌, length, get_or, take, drop, replicate, Some, None, sym, refl, ap, ◌∙◌, subst, ap₂, add-zero, mod-eq_of_lt, div-add-mod', one-add, arith}
 use Rattle.std.proofs.lemmas.Nat.{div_below}
 use Rattle.std.proofs.lemmas.List.{drop_at, drop-drop, get_or-drop, get_or-take, drop_more, length-append, length-take-le, length-take, length-drop, length-replicate, take-append-drop, take-take, drop-take}
-use Rattle.std.proofs.lemmas.Bool.{and_parts, and_from, leb_true, le-leb, eqb-true, ne_eqb}
+use Rattle.std.proofs.lemmas.Bool.{and_parts, and_from, leb-true, le-leb, eqb-true, ne_eqb}
 use Rattle.field.specs.Fields.{le2, half, word, field, field_at, are_zeros, is_field}
 use Rattle.order.specs.Fences.{Bound}
 use Rattle.seal.specs.Laws.{Bytes}
@@ -23,7 +23,7 @@ short-is None s = refl
 
 pub short_back : (h : Bound) → is_short h ≡ true → Short h
 unfolding is_short
-short_back (Some k) e = leb_true (length k) 16 e
+short_back (Some k) e = leb-true (length k) 16 e
 short_back None e = tt
 
 -- bytes of parts
@@ -136,7 +136,7 @@ unfolding is_field field
 field_is [] l e = absurd (omega arith)
 field_is (n ∷ g) l e =
     let p = and_parts (leb n 16) (are_zeros (drop (1 + n) (n ∷ g))) e in
-    let h = leb_true n 16 p.0 in
+    let h = leb-true n 16 p.0 in
     let z : are_zeros (drop n g) ≡ true = ap (λ (i : ℕ). are_zeros (drop i (n ∷ g))) (sym (one-add n)) ∙ p.1 in
     let lg : length g ≡ 16 = omega arith in
     let ln : length (take n g) ≡ n = length-take-le n g (omega arith) in
@@ -180,7 +180,7 @@ module _ (b : List ℕ) (i : ℕ) (h : i + 17 ≤ length b) where
   pub field_in : is_field 16 (take 17 (drop i b)) ≡ true → drop i b ≡ field 16 (field_at b i) ++ drop (i + 17) b
   unfolding part field_at is_field
   field_in e =
-      let s = leb_true (get_or part 0 0) 16 (and_parts _ _ e).0 in
+      let s = leb-true (get_or part 0 0) 16 (and_parts _ _ e).0 in
       let k : take (get_or part 0 0) (drop 1 part) ≡ take (get_or b i 0) (drop (i + 1) b) =
       part-key (get_or part 0 0) s ∙ ap (λ (n : ℕ). take n (drop (i + 1) b)) part-first in
       part-rest ∙ ap (λ (y : List ℕ). y ++ drop (i + 17) b) (field_is part part_length e ∙ ap (field 16) k)
@@ -188,7 +188,7 @@ module _ (b : List ℕ) (i : ℕ) (h : i + 17 ≤ length b) where
   pub field-short : is_field 16 (take 17 (drop i b)) ≡ true → (get_or b i 0 ≤ 16) × (length (field_at b i) ≤ 16)
   unfolding part field_at is_field
   field-short e =
-      let s = leb_true (get_or part 0 0) 16 (and_parts _ _ e).0 in
+      let s = leb-true (get_or part 0 0) 16 (and_parts _ _ e).0 in
       let f = part-first in
       let g : get_or b i 0 ≤ 16 = omega arith in
       let l = length-take (get_or b i 0) (drop (i + 1) b) in

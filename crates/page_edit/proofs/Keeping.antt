@@ -1,7 +1,7 @@
 -- What a page keeps: costs, and headers that become contents.
 use Rattle.std.proofs.Common.{◌≡◌, ℕ, zero, suc, ◌+◌, ◌-◌, ◌≤◌, true, leb, List, [], ◌∷◌, ◌++◌, length, get_or, take, drop, Some, None, Option, sym, refl, ap, ◌∙◌, ap₂, arith, take-append-drop}
 use Rattle.std.proofs.lemmas.List.{drop-drop}
-use Rattle.std.proofs.lemmas.Bool.{leb_true}
+use Rattle.std.proofs.lemmas.Bool.{leb-true}
 use Rattle.field.specs.Fields.{prefixed, field_at}
 use Rattle.field.specs.Held.{key_of}
 use Rattle.field.specs.declared.held.Key.{Key}
@@ -50,7 +50,7 @@ costs-kept es keep resume h =
     omega arith
 
 pub room : (b : List ℕ) → is_laid b ≡ true → costs (parse_page b).entries ≤ 436
-room b laid = leb_true (costs (parse_page b).entries) 436 (formed (parse_page b) (form_of b laid)).room
+room b laid = leb-true (costs (parse_page b).entries) 436 (formed (parse_page b) (form_of b laid)).room
 
 pub few : (b : List ℕ) → is_laid b ≡ true → length (parse_page b).entries ≤ 436
 few b laid = let r = room b laid in let c = count-costs (parse_page b).entries in omega arith

@@ -1,6 +1,6 @@
 -- What a put, and a remove, do at the leaf that their key's way has come to.
 use Rattle.std.proofs.Common.{◌≡◌, ℕ, ◌+◌, ◌<◌, ◌≤◌, Bool, true, false, cond, eqb, ltb, leb, ◌⊎◌, List, [], ◌∷◌, length, Some, None, Ok, Err, Option, sym, refl, ap, ◌∙◌, subst, inl, inr, arith}
-use Rattle.std.proofs.lemmas.Bool.{cases_Bool, cond-true, cond-false, cond_both, leb_true, ltb-true, eq-eqb, ne_eqb, cases_eq}
+use Rattle.std.proofs.lemmas.Bool.{cases_Bool, cond-true, cond-false, cond_both, leb-true, ltb-true, eq-eqb, ne_eqb, cases_eq}
 use Rattle.order.specs.Lawful.{Says}
 use Rattle.tree.specs.Rows.{set, find, is_less}
 use Rattle.tree.specs.Tree.{Image, Holds}
@@ -31,7 +31,7 @@ pub rooms : (w : World) (need : ℕ) → w.journal.on ≡ true
     → ((rooming w need ≡ ends (Ok need)) × (length w.journal.records + need ≤ w.journal.capacity)) ⊎ (rooming w need ≡ ends (Err LogFull))
 unfolding rooming
 rooms w need on = elim (cases_Bool (leb (length w.journal.records + need) w.journal.capacity)) [
-  | inl t ↦ inl (cond-true w.journal.on _ _ on ∙ cond-true (leb (length w.journal.records + need) w.journal.capacity) _ _ t, leb_true (length w.journal.records + need) w.journal.capacity t)
+  | inl t ↦ inl (cond-true w.journal.on _ _ on ∙ cond-true (leb (length w.journal.records + need) w.journal.capacity) _ _ t, leb-true (length w.journal.records + need) w.journal.capacity t)
   | inr t ↦ inr (cond-true w.journal.on _ _ on ∙ cond-false (leb (length w.journal.records + need) w.journal.capacity) _ _ t)
 ]
 

@@ -1,6 +1,6 @@
 -- The plan of a call on an open store: refused for its input, or the way of its key and what comes behind it.
 use Rattle.std.proofs.Common.{◌≡◌, ℕ, suc, ◌<◌, ◌≤◌, Bool, true, false, ◌&&◌, ltb, leb, ◌⊎◌, List, Some, None, Ok, Err, Option, Result, refl, ◌∙◌, inl, inr, arith}
-use Rattle.std.proofs.lemmas.Bool.{cases_Bool, cond-true, cond-false, leb_true, leb-false, ltb-true, ltb-false}
+use Rattle.std.proofs.lemmas.Bool.{cases_Bool, cond-true, cond-false, leb-true, leb-false, ltb-true, ltb-false}
 use Rattle.order.specs.Lawful.{Says}
 use Rattle.images.specs.Keys.{Key, Value, key_of, fence_of, value_of}
 use Rattle.model.specs.declared.refusal.Refusal.{Refusal}
@@ -122,7 +122,7 @@ module _ (says : Says) (w : World) where
         | inl e ↦ inl ((WorkList, work_list, a ∙ b ∙ asked_err w (work_asked w work) (get_work says k) WorkList e.0), λ j f. omega (arith, e.1, f.work-is))
         | inr e ↦ inr (
           k,
-          record { key-is = h.1; room-is = leb_true 64 room g.1; work_is = e.1 },
+          record { key-is = h.1; room-is = leb-true 64 room g.1; work_is = e.1 },
           a ∙ b ∙ asked-ok w (work_asked w work) (get_work says k) 0 e.0,
         )
       ]

@@ -1,6 +1,6 @@
 -- What create and open do in a run.
 use Rattle.std.proofs.Common.{◌≡◌, ℕ, ◌≤◌, true, false, ◌&&◌, eqb, leb, ◌⊎◌, List, [], ◌∷◌, ◌++◌, length, Ok, Err, Result, sym, refl, ap, ◌∙◌, subst, inl, inr, arith}
-use Rattle.std.proofs.lemmas.Bool.{cases_Bool, cond-true, cond-false, and_parts, leb_true, eqb-true, true≢false}
+use Rattle.std.proofs.lemmas.Bool.{cases_Bool, cond-true, cond-false, and_parts, leb-true, eqb-true, true≢false}
 use Rattle.std.proofs.lemmas.List.{append-nil, nil_from_length}
 use Rattle.order.specs.Lawful.{Says}
 use Rattle.wal.specs.Journal.{Entry, entry, lost}
@@ -56,7 +56,7 @@ sized-parts : (w : World) → sized w ≡ true → (4 ≤ length w.disk.pages) �
 unfolding sized
 sized-parts w h =
     let a = and_parts (leb 4 (length w.disk.pages) && leb (length w.disk.pages) 65536) _ h in
-    (leb_true 4 (length w.disk.pages) (and_parts (leb 4 (length w.disk.pages)) _ a.0).0, leb_true 8 w.journal.capacity (and_parts (leb 8 w.journal.capacity) _ a.1).0)
+    (leb-true 4 (length w.disk.pages) (and_parts (leb 4 (length w.disk.pages)) _ a.0).0, leb-true 8 w.journal.capacity (and_parts (leb 8 w.journal.capacity) _ a.1).0)
 
 pub down_not_open : {A : Type 0} → state.Down ≡ state.Open → A
 down_not_open e = let z : ◌≡◌ {A = ℕ} 0 1 = cc in absurd (omega arith)

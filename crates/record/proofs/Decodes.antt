@@ -2,7 +2,7 @@
 use Rattle.std.proofs.Common.{◌≡◌, ℕ, ◌+◌, ◌<◌, ◌≤◌, Bool, true, false, cond, eqb, ltb, leb, List, length, get_or, Some, None, Option, sym, refl, ap, ◌∙◌, subst, ap₂, arith, length-append}
 use Rattle.std.specs.Str.{bytes_eq}
 use Rattle.std.proofs.lemmas.Slice.Eq.{bytes_eq-Decides}
-use Rattle.std.proofs.lemmas.Bool.{and_parts, and_from, cond-true, eq-eqb, le-leb, leb_true, lt-ltb, ltb-true}
+use Rattle.std.proofs.lemmas.Bool.{and_parts, and_from, cond-true, eq-eqb, le-leb, leb-true, lt-ltb, ltb-true}
 use Rattle.field.specs.Fields.{word}
 use Rattle.seal.specs.Laws.{Bytes}
 use Rattle.seal.specs.Crc.{crc}
@@ -117,8 +117,8 @@ parsed_fits b w h =
       other = word_fits b 12 w;
       other_previous = word_fits b 16 w;
       child = word_fits b 20 w;
-      key = string-fits b 25 16 (leb_true (get_or b 25 0) 16 s.0);
-      value = string-fits b 42 64 (leb_true (get_or b 42 0) 64 s.1);
+      key = string-fits b 25 16 (leb-true (get_or b 25 0) 16 s.0);
+      value = string-fits b 42 64 (leb-true (get_or b 42 0) 64 s.1);
     }
 
 -- a content that was chosen by a test

@@ -17,7 +17,7 @@ use Rattle.tree.proofs.Plan.{set-total, divided-lower, divided-upper}
 use Rattle.tree.proofs.Adopt.{holds-k, absent_k}
 use Rattle.tree.proofs.Rows.{less-true, less_false, floor-le, ceil-above}
 use Rattle.tree.proofs.Runs.{StandsWell, link_once, positive_once, changed-sound}
-use Rattle.std.proofs.lemmas.Bool.{cond_both, leb_true, leb-false, and_parts, and_from, cases_eq, eq-eqb, ne_eqb, le-leb}
+use Rattle.std.proofs.lemmas.Bool.{cond_both, leb-true, leb-false, and_parts, and_from, cases_eq, eq-eqb, ne_eqb, le-leb}
 
 without-total : {K A : Type 0} (rank : K → ℕ) (cost : K × A → ℕ) (k : K) (es : List (K × A)) → total cost (without (by rank) k es) ≤ total cost es
 without-total rank cost k [] = omega arith
@@ -45,7 +45,7 @@ module _ {K V : Type 0} (rank : K → ℕ) (top : ℕ) (least : K) (ranked : Ran
   room-made Format p x t r = record { pairs = omega arith; kids = omega arith }
   room-made (Put q k v) p x t r =
       let a = (and_parts (in_bounds (by rank) k x.frame) _ (and_parts (eqb x.frame.level 0) _ t).1).1 in
-      record { pairs = leb_true (total pair-cost (set (by rank) k v x.pairs)) 436 a; kids = r.kids }
+      record { pairs = leb-true (total pair-cost (set (by rank) k v x.pairs)) 436 a; kids = r.kids }
   room-made (Remove q k) p x t r = record { pairs = omega (arith, without-total rank pair-cost k x.pairs, r.pairs); kids = r.kids }
   room-made (Foster q o d) p x t r = cond_both (eqb p o) _ _ Room
       (λ _. record { pairs = omega (arith, parts rank pair-cost d x.pairs, r.pairs); kids = omega (arith, parts rank kid-cost d x.frame.kids, r.kids) })
@@ -57,7 +57,7 @@ module _ {K V : Type 0} (rank : K → ℕ) (top : ℕ) (least : K) (ranked : Ran
       go zero e = let z : ◌≡◌ {A = ℕ} 0 1 = cc in absurd (omega arith)
       go (suc l) e =
           let a = (and_parts (not (some (find (by rank) k x.frame.kids))) _ (and_parts (in_bounds (by rank) k x.frame) _ e).1).1 in
-          leb_true (total kid-cost (set (by rank) k c x.frame.kids)) 436 a
+          leb-true (total kid-cost (set (by rank) k c x.frame.kids)) 436 a
   room-made (Grow o) p x t r = cond_both (eqb p 0) _ x Room
       (λ _. record { pairs = omega arith; kids = omega (arith, kid_cheap least o) }) (λ _. r)
 
@@ -152,7 +152,7 @@ module _ {K V : Type 0} (rank : K → ℕ) (top : ℕ) (least : K) (ranked : Ran
     put-fits p k v c b e h =
         cond_both (leb (total pair-cost (set (by rank) k v (s.page p).pairs)) 436) (Put p k v ∷ []) (divided-put (by rank) pair-cost kid-cost p s.born k v (divider pair-cost (s.page p).pairs))
         (FitAll s)
-        (λ t. (fit-put s p k v (put-suits (s.page p) k v p p e h (leb_true (total pair-cost (set (by rank) k v (s.page p).pairs)) 436 t)), tt))
+        (λ t. (fit-put s p k v (put-suits (s.page p) k v p p e h (leb-true (total pair-cost (set (by rank) k v (s.page p).pairs)) 436 t)), tt))
         (λ t. two t (divides rank pair-cost 84 _ _ (s.page p).pairs (sound.pairs-ascend p b) (priced.pairs p)
         (omega (arith, leb-false (total pair-cost (set (by rank) k v (s.page p).pairs)) 436 t, set-total rank pair-cost k v (s.page p).pairs))))
       where

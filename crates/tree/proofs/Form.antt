@@ -12,14 +12,14 @@ use Rattle.tree.specs.Halves.{total, some, divides-row}
 use Rattle.tree.specs.Suits.{below, in_bounds, is-foster, divides-page, adopts, suits, Form, first_of}
 use Rattle.tree.proofs.Rows.{set-ascends, without-ascends, upto-ascends, from-ascends, find-below, from_all, less-true}
 use Rattle.tree.proofs.Upd.{none-some}
-use Rattle.std.proofs.lemmas.Bool.{cond_both, cases_lt, leb_true, and_parts, not-true}
+use Rattle.std.proofs.lemmas.Bool.{cond_both, cases_lt, leb-true, and_parts, not-true}
 
 module _ {K : Type 0} (rank : K → ℕ) (top : ℕ) (least : K) (ranked : Ranking rank top least) where
   -- what a bound tells
   bounded : (x : Frame K) (k : K) → in_bounds (by rank) k x ≡ true → (rank x.low ≤ rank k) × (rank k < edge rank top (upper x))
   bounded x k t =
       let p = and_parts (is_le (by rank x.low k)) (below (by rank) k (upper x)) t in
-      (leb_true (rank x.low) (rank k) p.0, go (upper x) p.1)
+      (leb-true (rank x.low) (rank k) p.0, go (upper x) p.1)
     where
       go : (u : Option K) → below (by rank) k u ≡ true → rank k < edge rank top u
       go None e = ranked.below_top k

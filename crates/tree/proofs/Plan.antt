@@ -10,7 +10,7 @@ use Rattle.tree.proofs.Rows.{less-true, less_false, floor-le, ceil-above}
 use Rattle.tree.proofs.Halves.{divides}
 use Rattle.tree.proofs.Upd.{upd-here, upd_there, upd_cases}
 use Rattle.tree.proofs.Kept.{stays, pages_divide}
-use Rattle.std.proofs.lemmas.Bool.{cases_lt, cond_both, leb_true, leb-false}
+use Rattle.std.proofs.lemmas.Bool.{cases_lt, cond_both, leb-true, leb-false}
 
 -- an entry added costs no more than its own cost more
 pub set-total : {K A : Type 0} (rank : K → ℕ) (cost : K × A → ℕ) (k : K) (a : A) (es : List (K × A))

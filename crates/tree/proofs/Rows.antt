@@ -3,7 +3,7 @@ use Prim.Native.Nat.{compare}
 use Rattle.tree.specs.Rows.{find, upto, from, set, without, above, floor, ceil, Ascends, by, is_less}
 use Rattle.tree.specs.Tree.{edge}
 use Rattle.std.proofs.lemmas.Bool.Decides.{nat_tests}
-use Rattle.std.proofs.lemmas.Bool.{cond_both, cases_lt, leb_true, leb-false, eqb-true, eqb-false}
+use Rattle.std.proofs.lemmas.Bool.{cond_both, cases_lt, leb-true, leb-false, eqb-true, eqb-false}
 
 pub less-true : (a b : ℕ) → is_less (compare a b) ≡ true → a < b
 less-true a b t = grind arith
@@ -71,7 +71,7 @@ module _ {K A : Type 0} (rank : K → ℕ) where
   floor-le k d [] h = h
   floor-le k d (e ∷ es) h =
       cond_both (leb (rank e.0) (rank k)) (floor (by rank) k e es) d (λ x. rank x.0 ≤ rank k)
-      (λ t. floor-le k e es (leb_true (rank e.0) (rank k) t)) (λ _. h)
+      (λ t. floor-le k e es (leb-true (rank e.0) (rank k) t)) (λ _. h)
 
   -- an entry above the key's successor is never reached
   pub floor-above : (k : K) (d : K × A) (a b : ℕ) (es : List (K × A)) → Ascends rank a es b → rank k < a → floor (by rank) k d es ≡ d

@@ -12,7 +12,7 @@ use Rattle.tree.proofs.Rows.{floor-le, floor_ge, ceil-above}
 use Rattle.tree.proofs.Way.{key-found}
 use Rattle.ranks.proofs.Tally.{In, All, tally, tally-lt, tally_most}
 use Rattle.tree.proofs.Upd.{none-some}
-use Rattle.std.proofs.lemmas.Bool.{leb_true, leb-false, cases_lt, cases_eq, lt-ltb, le-ltb, ltb-true}
+use Rattle.std.proofs.lemmas.Bool.{leb-true, leb-false, cases_lt, cases_eq, lt-ltb, le-ltb, ltb-true}
 use Rattle.std.proofs.lemmas.Bool.Decides.{nat_tests}
 
 same-bound : {K : Type 0} (rank : K → ℕ) (u : Option K) → same_bound (by rank) u u ≡ true

@@ -6,7 +6,7 @@ use Rattle.tree.specs.Rows.{find, floor, ceil, Ascends, by}
 use Rattle.tree.specs.Tree.{Frame, Image, State, Shape, Sound, Points, Ranking, upper, upper_of, edge, Holds, kid, bound, frames, onward, onward_of, Way, Found}
 use Rattle.tree.specs.Tree.Way.{ends, goes}
 use Rattle.tree.proofs.Rows.{floor-le, floor_ge}
-use Rattle.std.proofs.lemmas.Bool.{leb_true, leb-false, cases_lt}
+use Rattle.std.proofs.lemmas.Bool.{leb-true, leb-false, cases_lt}
 
 -- the first entry above a key bounds it
 ceil-above : {K A : Type 0} (rank : K → ℕ) (top : ℕ) (k : K) (u : Option K) (es : List (K × A)) → rank k < edge rank top u
