@@ -1,6 +1,6 @@
 -- The image that a header and a filled page make.
-use Rattle.std.proofs.Common.{◌≡◌, ℕ, ◌+◌, ◌-◌, ◌*◌, ◌≤◌, List, [], ◌++◌, length, take, drop, replicate, sym, refl, ap, ◌∙◌, ap₂}
-use Rattle.page.specs.Content.{Entry, Content, costs}
+use Rattle.std.proofs.Common.{◌≡◌, ℕ, ◌+◌, ◌-◌, ◌*◌, ◌≤◌, List, [], ◌++◌, length, take, drop, replicate, refl, ap, ◌∙◌, ap₂}
+use Rattle.page.specs.Content.{Entry, costs}
 use Rattle.page.specs.Image.{encode_page, page_body, header, slots, places, heap}
 use Rattle.seal.specs.Seal.{sealed}
 use Rattle.page_build.specs.declared.header.Header.{Header}

@@ -1,9 +1,9 @@
 -- An image that is being filled with entries: what is left of them gives what all of them give.
-use Rattle.std.proofs.Common.{◌≡◌, ℕ, suc, ◌+◌, ◌-◌, ◌*◌, ◌<◌, ◌≤◌, List, [], ◌∷◌, ◌++◌, length, get_or, take, drop, replicate, sym, refl, ap, ◌∙◌, ap₂, append_assoc, append-nil, arith, length-append, take-append-drop}
+use Rattle.std.proofs.Common.{◌≡◌, ℕ, ◌+◌, ◌-◌, ◌*◌, ◌<◌, ◌≤◌, List, [], ◌∷◌, ◌++◌, length, get_or, take, drop, replicate, sym, refl, ap, ◌∙◌, ap₂, append_assoc, append-nil, arith, length-append, take-append-drop}
 use Rattle.std.proofs.lemmas.List.{take-take, drop-drop, drop-take, take-replicate, drop-replicate, drop_more, drop_all, take_at, length-replicate}
 use Rattle.std.proofs.lemmas.Slice.{between_is}
 use Rattle.field.specs.Fields.{le2}
-use Rattle.page.specs.Content.{Entry, cost, costs}
+use Rattle.page.specs.Content.{Entry, costs}
 use Rattle.page.specs.Content.Entry.{leaf}
 use Rattle.page.specs.Image.{entry_bytes, places, slots, heap, last_or}
 use Rattle.page.proofs.Entries.{cost-is, heap-below, sizes, start_is, slots_length}

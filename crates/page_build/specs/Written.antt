@@ -1,5 +1,5 @@
 -- A blank image into which entries were written.
-use Rattle.std.specs.Prelude.{◌≡◌, ℕ, ◌+◌, ◌-◌, ◌*◌, List, [], ◌++◌, length, replicate}
+use Rattle.std.specs.Prelude.{ℕ, ◌+◌, ◌-◌, ◌*◌, List, [], ◌++◌, length, replicate}
 use Rattle.page.specs.Content.{Entry}
 use Rattle.page.specs.Image.{places, last_or, slots, heap}
 

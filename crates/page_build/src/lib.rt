@@ -1,7 +1,6 @@
 // Pages built anew from the entries of old ones.
 #![tactic(auto)]
 
-
 mod alone;
 mod entries;
 mod fresh;

@@ -1,5 +1,5 @@
 -- Halves of a page.
-use Rattle.std.proofs.Common.{◌≡◌, ℕ, zero, suc, ◌+◌, ◌*◌, ◌<◌, ◌≤◌, Bool, true, false, cond, leb, List, [], ◌∷◌, ◌++◌, length, get_or, take, drop, Some, None, Option, Ordering, Less, Equal, Greater, sym, refl, ap, ◌∙◌, subst, ap₂, append-nil, suc-le-suc, zero-le, arith}
+use Rattle.std.proofs.Common.{◌≡◌, ℕ, zero, suc, ◌+◌, ◌*◌, ◌<◌, ◌≤◌, Bool, cond, List, [], ◌∷◌, ◌++◌, length, get_or, take, drop, Some, None, Option, Ordering, Less, Equal, sym, refl, ap, ◌∙◌, subst, append-nil, suc-le-suc, zero-le, arith}
 use Rattle.std.specs.Ordering.{is_lt}
 use Rattle.std.proofs.lemmas.List.{drop_all}
 use Rattle.std.proofs.lemmas.Bool.{le-leb, lt-leb}
@@ -7,17 +7,16 @@ use Rattle.field.specs.Held.{key_of}
 use Rattle.field.specs.declared.held.Key.{Key}
 use Rattle.order.specs.Fences.{Bound}
 use Rattle.order.specs.Lawful.{Says, Itself}
-use Rattle.order.specs.Slots.{key_at, Ascending}
-use Rattle.page.specs.Content.{Entry, Foster, Content, entry_key, keys_in, entry_at, cost, costs}
+use Rattle.order.specs.Slots.{Ascending}
+use Rattle.page.specs.Content.{Entry, Foster, Content, entry_key, keys_in, cost, costs}
 use Rattle.page.specs.Content.Entry.{leaf, branch}
 use Rattle.page.specs.Image.{entry_bytes}
 use Rattle.page.proofs.Entries.{cost-is}
 use Rattle.page_build.specs.declared.header.Header.{Header}
-use Rattle.page_build.specs.declared.header.Foster as code
 use Rattle.page_build.specs.Spliced.{spliced}
 use Rattle.page_build.specs.Told.{content_of, Heads, bound_of, foster_of}
 use Rattle.page_build.proofs.Filling.{left-more, left-none}
-use Rattle.page_edit.specs.Edits.{halfway, first_half, below, from, lower_half, upper_half, grown_root}
+use Rattle.page_edit.specs.Edits.{halfway, below, from, lower_half, upper_half, grown_root}
 use Rattle.page_edit.proofs.Placing.{keys_length}
 
 -- a turn of the loop that looks for the half

@@ -1,8 +1,8 @@
 -- What a page keeps: costs, and headers that become contents.
-use Rattle.std.proofs.Common.{◌≡◌, ℕ, zero, suc, ◌+◌, ◌-◌, ◌≤◌, true, leb, List, [], ◌∷◌, ◌++◌, length, get_or, take, drop, Some, None, Option, sym, refl, ap, ◌∙◌, ap₂, arith, take-append-drop}
+use Rattle.std.proofs.Common.{◌≡◌, ℕ, zero, suc, ◌+◌, ◌-◌, ◌≤◌, true, List, [], ◌∷◌, ◌++◌, length, take, drop, Some, None, Option, ap, ◌∙◌, arith, take-append-drop}
 use Rattle.std.proofs.lemmas.List.{drop-drop}
 use Rattle.std.proofs.lemmas.Bool.{leb-true}
-use Rattle.field.specs.Fields.{prefixed, field_at}
+use Rattle.field.specs.Fields.{prefixed}
 use Rattle.field.specs.Held.{key_of}
 use Rattle.field.specs.declared.held.Key.{Key}
 use Rattle.order.specs.Fences.{Bound}
@@ -13,7 +13,6 @@ use Rattle.page.specs.Image.{parse_page}
 use Rattle.page.proofs.Pages.{formed}
 use Rattle.page.proofs.Parsed.{form_of}
 use Rattle.page_build.specs.declared.header.Header.{Header}
-use Rattle.page_build.specs.declared.header.Foster as code
 use Rattle.page_build.specs.Spliced.{spliced}
 use Rattle.page_build.specs.Told.{content_of, Heads, bound_of, foster_of}
 use Rattle.page_build.proofs.Entering.{field-short}

@@ -3,9 +3,8 @@ use Rattle.std.specs.Prelude.{ℕ, suc, ◌+◌, ◌*◌, Bool, false, cond, ◌
 use Rattle.std.specs.declared.cmp.Ordering.TheVariants.{Less, Equal, Greater}
 use Rattle.std.specs.declared.cmp.Ordering.{Ordering}
 use Rattle.std.specs.Ordering.{is_eq, is_lt}
-use Rattle.order.specs.Fences.{Bound}
 use Rattle.order.specs.Lawful.{Says}
-use Rattle.page.specs.Content.{Entry, Foster, Content, entry_key, cost, costs}
+use Rattle.page.specs.Content.{Entry, Content, entry_key, cost, costs}
 use Rattle.page.specs.Content.Entry.{leaf, branch}
 use Rattle.page.specs.Image.{encode_page}
 

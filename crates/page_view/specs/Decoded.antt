@@ -2,7 +2,7 @@
 use Rattle.std.specs.Prelude.{◌≡◌, ℕ, List, Some, None, Option}
 use Rattle.page.specs.Content.{Content}
 use Rattle.page.specs.Image.{parse_page}
-use Rattle.page_view.specs.declared.page.Page.{Page}
+use Rattle.page_view.specs.declared.owned.Page.{Page}
 
 abbrev pub content_of : Option Page → Option Content
 content_of None = None

@@ -3,7 +3,7 @@ ghost use Rattle.std.specs.Prelude.{◌≡◌, true};
 ghost use Rattle.page.specs.Form.{decode_page, is_laid};
 ghost use Rattle.page_view.specs.Decoded.{content_of, ImageKept};
 
-use crate::page::Page;
+use crate::owned::Page;
 use crate::view::PageView;
 use order::KeyOrder;
 use page::check;

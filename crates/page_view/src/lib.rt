@@ -3,10 +3,10 @@
 
 mod access;
 mod held;
-mod page;
+mod owned;
 mod parts;
 mod row;
 mod view;
 
-pub use page::Page;
+pub use owned::Page;
 pub use view::{FosterView, PageView};

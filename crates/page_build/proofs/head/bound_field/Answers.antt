@@ -1,5 +1,4 @@
-use Rattle.std.proofs.Common.{sym, refl, ap, ◌∙◌}
-use Rattle.field.specs.Fields.{field}
+use Rattle.std.proofs.Common.{sym, ap, ◌∙◌}
 use Rattle.page.specs.Image.{bound_field}
 use Rattle.page_build.specs.Told.{bound_of}
 use Rattle.page_build.proofs.head.bound_field.Goals as goal

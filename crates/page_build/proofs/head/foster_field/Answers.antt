@@ -1,4 +1,4 @@
-use Rattle.std.proofs.Common.{sym, refl, ap, ◌∙◌}
+use Rattle.std.proofs.Common.{sym, ap, ◌∙◌}
 use Rattle.field.specs.Fields.{field}
 use Rattle.page.specs.Content.{foster_key}
 use Rattle.page_build.specs.Told.{foster_of}

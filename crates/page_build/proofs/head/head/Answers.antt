@@ -1,4 +1,4 @@
-use Rattle.std.proofs.Common.{◌≡◌, ℕ, List, [], ◌∷◌, length, refl, ap, ◌∙◌, arith, rules}
+use Rattle.std.proofs.Common.{◌≡◌, [], ◌∷◌, length, ap, ◌∙◌, rules}
 use Rattle.field.specs.Fields.{le2, field}
 use Rattle.field.specs.Held.{key_of}
 use Rattle.page.specs.Content.{foster_child, foster_key}

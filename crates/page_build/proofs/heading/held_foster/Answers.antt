@@ -1,4 +1,4 @@
-use Rattle.std.proofs.Common.{◌≡◌, ℕ, ◌≤◌, List, length, ap, subst}
+use Rattle.std.proofs.Common.{ℕ, ◌≤◌, List, length, ap, subst}
 use Rattle.page.specs.Content.{foster_key}
 use Rattle.page_view.specs.Lent.{foster_lent}
 use Rattle.page_build.proofs.heading.held_foster.Goals as goal

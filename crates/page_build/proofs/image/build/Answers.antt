@@ -1,4 +1,4 @@
-use Rattle.std.proofs.Common.{◌≡◌, ℕ, ◌+◌, ◌<◌, List, ◌++◌, length, take, drop, subst, arith, rules}
+use Rattle.std.proofs.Common.{◌≡◌, ℕ, ◌+◌, List, ◌++◌, length, take, drop, subst, arith, rules}
 use Rattle.page.specs.Content.{Entry}
 use Rattle.page_build.proofs.Built.{built}
 use Rattle.page_build.proofs.Filling.{few}

@@ -1,9 +1,9 @@
-use Rattle.std.proofs.Common.{◌≡◌, ℕ, ◌+◌, ◌*◌, ◌<◌, ◌≤◌, List, [], ◌∷◌, ◌++◌, length, get_or, take, drop, sym, ap, ◌∙◌, subst, arith}
+use Rattle.std.proofs.Common.{◌≡◌, ℕ, ◌+◌, ◌*◌, ◌<◌, ◌≤◌, List, [], ◌∷◌, ◌++◌, length, get_or, take, drop, sym, subst, arith}
 use Rattle.field.specs.Fields.{le2}
 use Rattle.page.specs.Content.{Entry}
 use Rattle.page.specs.Content.Entry.{leaf}
-use Rattle.page.specs.Image.{entry_bytes, places, last_or}
-use Rattle.page_build.proofs.Filling.{Filled, filled_none, filled_more, filled-all, fits, left-more, left-none}
+use Rattle.page.specs.Image.{places, last_or}
+use Rattle.page_build.proofs.Filling.{Filled, filled_more, filled-all, fits, left-more, left-none}
 use Rattle.page_build.proofs.image.fill.Goals as goal
 
 -- the invariant at a turn, with the entry that the turn writes in front

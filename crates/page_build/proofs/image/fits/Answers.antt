@@ -1,4 +1,4 @@
-use Rattle.std.proofs.Common.{◌≡◌, ◌<◌, ◌≤◌, List, length, sym, arith}
+use Rattle.std.proofs.Common.{◌<◌, ◌≤◌, List, length, sym, arith}
 use Rattle.std.proofs.lemmas.Bool.{le-leb, lt-leb}
 use Rattle.page.specs.Content.{Entry, costs}
 use Rattle.page_build.proofs.Filling.{costs-more, costs-none}

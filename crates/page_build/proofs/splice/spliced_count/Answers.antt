@@ -1,4 +1,4 @@
-use Rattle.std.proofs.Common.{◌≡◌, length, ap, ◌∙◌, arith}
+use Rattle.std.proofs.Common.{◌≡◌, length, ap, arith}
 use Rattle.page.specs.Image.{parse_page}
 use Rattle.page_build.specs.Spliced.{listed}
 use Rattle.page_build.proofs.Splicing.{count-is}

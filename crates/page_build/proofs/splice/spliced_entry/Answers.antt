@@ -1,10 +1,10 @@
-use Rattle.std.proofs.Common.{◌≡◌, ℕ, ◌+◌, ◌-◌, ◌<◌, ◌≤◌, List, [], ◌∷◌, length, get_or, sym, refl, ap, ◌∙◌, subst, arith}
+use Rattle.std.proofs.Common.{◌≡◌, ℕ, ◌+◌, ◌-◌, List, [], ◌∷◌, length, get_or, sym, ap, ◌∙◌, arith}
 use Rattle.page.specs.Content.{Entry, entry_at}
 use Rattle.page.specs.Content.Entry.{leaf}
 use Rattle.page.specs.Image.{entry_bytes, parse_page}
 use Rattle.page_build.specs.Entered.{entry_in}
 use Rattle.page_build.specs.Spliced.{listed, spliced}
-use Rattle.page_build.proofs.Splicing.{within-front, within_back, front-is, back_is, middle-is}
+use Rattle.page_build.proofs.Splicing.{within_back, front-is, back_is, middle-is}
 use Rattle.page_build.proofs.splice.spliced_entry.Goals as goal
 
 pub returns-then-i-kept : goal.returns-then-i-kept
@@ -36,7 +36,7 @@ returns-in-None c =
     let b = back_is p (listed c.args.fresh) c.args.keep c.args.resume c.count.result c.min-kept.result c.args.i 0 (leaf [] [])
     c.count.ensures.value c.min-kept.ensures m (omega (arith, c.if-i-kept.false)) in
     let z : c.args.resume + (c.args.i - c.min-kept.result) ≡ c.args.resume + (c.args.i - c.min-kept.result - 0) = omega arith in
-    c.entry_in-None.ensures ∙ ap (λ (j : ℕ). entry_bytes (get_or p j (leaf [] []))) z ∙ ap entry_bytes b
+    c.entry-in-None.ensures ∙ ap (λ (j : ℕ). entry_bytes (get_or p j (leaf [] []))) z ∙ ap entry_bytes b
 
 pub overflow_add-resume-else-i-kept-2 : goal.overflow_add-resume-else-i-kept-2
 overflow_add-resume-else-i-kept-2 c =

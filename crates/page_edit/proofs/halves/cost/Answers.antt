@@ -1,4 +1,4 @@
-use Rattle.std.proofs.Common.{◌≡◌, ◌<◌, ◌≤◌, List, length, arith}
+use Rattle.std.proofs.Common.{◌<◌, ◌≤◌, List, length, arith}
 use Rattle.page.specs.Content.{Entry, entry_at}
 use Rattle.page.specs.Image.{parse_page}
 use Rattle.page_build.proofs.Filling.{costs-more, costs-none}

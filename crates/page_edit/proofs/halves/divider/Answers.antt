@@ -1,7 +1,7 @@
-use Rattle.std.proofs.Common.{◌≡◌, ℕ, ◌+◌, ◌*◌, ◌<◌, ◌≤◌, List, length, sym, ap, ◌∙◌, arith}
-use Rattle.page.specs.Content.{Entry, entry_at, costs}
+use Rattle.std.proofs.Common.{ℕ, ◌<◌, ◌≤◌, List, length, ap, arith}
+use Rattle.page.specs.Content.{Entry, entry_at}
 use Rattle.page.specs.Image.{parse_page}
-use Rattle.page_build.proofs.Filling.{costs-more, costs-none}
+use Rattle.page_build.proofs.Filling.{costs-more}
 use Rattle.page_edit.specs.Edits.{first_half, halfway}
 use Rattle.page_edit.proofs.Dividing.{half-found, half-further, half-none}
 use Rattle.page_edit.proofs.Keeping.{room}

@@ -1,4 +1,4 @@
-use Rattle.std.proofs.Common.{◌≡◌, ◌≤◌, List, [], length, ap, ◌∙◌, arith}
+use Rattle.std.proofs.Common.{◌≤◌, [], length, ap, ◌∙◌, arith}
 use Rattle.page.specs.Content.{entry_at, entry_key}
 use Rattle.page.specs.Image.{encode_page, parse_page}
 use Rattle.page_build.specs.Spliced.{spliced}

@@ -1,4 +1,4 @@
-use Rattle.std.proofs.Common.{◌≡◌, ℕ, ◌≤◌, List, length, sym, subst}
+use Rattle.std.proofs.Common.{ℕ, ◌≤◌, List, length, sym, subst}
 use Rattle.page.specs.Content.{entry_at}
 use Rattle.page.specs.Image.{parse_page}
 use Rattle.page.proofs.Parsed.{form_of}

@@ -1,10 +1,9 @@
-use Rattle.std.proofs.Common.{◌≡◌, ℕ, cond, leb, List, [], ◌∷◌, Some, None, Option, sym, ap, ◌∙◌, ap₂}
+use Rattle.std.proofs.Common.{cond, leb, List, [], ◌∷◌, Some, None, sym, ap, ◌∙◌}
 use Rattle.page.specs.Content.{Entry, Content, costs}
 use Rattle.page.specs.Image.{encode_page, parse_page}
 use Rattle.page_build.specs.Entered.{entry_in}
 use Rattle.page_build.specs.Spliced.{spliced}
-use Rattle.page_build.specs.Told.{content_of}
-use Rattle.page_edit.specs.Edits.{fitting_image, with_entries, placed}
+use Rattle.page_edit.specs.Edits.{fitting_image, with_entries}
 use Rattle.page_edit.proofs.Keeping.{headed}
 use Rattle.page_edit.proofs.place.place.Goals as goal
 

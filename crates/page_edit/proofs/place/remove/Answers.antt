@@ -1,12 +1,10 @@
-use Rattle.std.proofs.Common.{◌≡◌, ℕ, ◌+◌, ◌≤◌, Bool, true, cond, List, [], length, Some, None, Option, sym, ap, ◌∙◌, subst, arith}
-use Rattle.field.specs.Held.{key_of}
+use Rattle.std.proofs.Common.{ℕ, ◌+◌, ◌≤◌, Bool, List, [], length, Some, sym, ap, ◌∙◌, subst, arith}
 use Rattle.page.specs.Content.{Entry, Content}
 use Rattle.page.specs.Image.{encode_page, parse_page}
 use Rattle.page_build.specs.Spliced.{spliced}
-use Rattle.page_build.specs.Told.{content_of}
 use Rattle.page.proofs.Parsed.{form_of}
 use Rattle.page.proofs.Rises.{ascending}
-use Rattle.page_edit.specs.Edits.{image_if, after_remove, with_entries, without, has}
+use Rattle.page_edit.specs.Edits.{image_if, after_remove, with_entries, has}
 use Rattle.page_edit.proofs.Keeping.{key-short, few, headed}
 use Rattle.page_edit.proofs.Placing.{keys_length, without-ok, has-ok, has_err}
 use Rattle.page_edit.proofs.place.remove.Goals as goal

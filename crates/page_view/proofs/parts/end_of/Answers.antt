@@ -1,8 +1,8 @@
-use Rattle.std.proofs.Common.{◌≡◌, ℕ, ◌+◌, ◌<◌, ◌≤◌, length, get_or, sym, ap, ◌∙◌, arith, rules}
+use Rattle.std.proofs.Common.{◌≡◌, ℕ, ◌+◌, ◌<◌, length, get_or, ap, arith}
 use Rattle.page.specs.Content.{value_in, entry_at}
 use Rattle.page.specs.Image.{parse_page}
 use Rattle.page_view.specs.Places.{place_of, behind_key}
-use Rattle.page_view.proofs.Stands.{Ends, key-room, leaf-ends, branch-ends, ends_at}
+use Rattle.page_view.proofs.Stands.{key-room, leaf-ends, branch-ends, ends_at}
 use Rattle.page_view.proofs.parts.end_of.Goals as goal
 
 pub overflow_add-result : goal.overflow_add-result

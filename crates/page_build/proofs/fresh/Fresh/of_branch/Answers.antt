@@ -1,4 +1,4 @@
-use Rattle.std.proofs.Common.{◌≡◌, ℕ, ◌+◌, ◌^◌, ◌<◌, ◌≤◌, true, length, take, ap, arith}
+use Rattle.std.proofs.Common.{◌+◌, ◌^◌, ◌<◌, true, length, ap, arith}
 use Rattle.field.specs.Held.{key_of}
 use Rattle.page.specs.Content.Entry.{branch}
 use Rattle.page_build.proofs.Entering.{field-short, fresh-is, fresh-whole, branch-bytes}
@@ -17,10 +17,11 @@ invariant_of-result c =
     let a = ap length c.prefixed-first.ensures in
     let h : c.args.child < 2 ^ 32 = omega arith in
     let w = branch-bytes (key_of c.args.key.now) c.args.child c.prefixed-first.result.now c.to_le_bytes-second.result
-    c.joined-bytes.result c.prefixed-first.ensures c.to_le_bytes-second.ensures c.joined-bytes.ensures in (
-      omega arith,
-      (fresh-whole true (branch (key_of c.args.key.now) c.args.child) (length c.prefixed-first.result.now + 4) c.joined-bytes.result h w, tt),
-    )
+    c.joined-bytes.result c.prefixed-first.ensures c.to_le_bytes-second.ensures c.joined-bytes.ensures in
+    record {
+      fits = omega arith;
+      whole = fresh-whole true (branch (key_of c.args.key.now) c.args.child) (length c.prefixed-first.result.now + 4) c.joined-bytes.result h w;
+    }
 
 pub returns : goal.returns
 returns c =

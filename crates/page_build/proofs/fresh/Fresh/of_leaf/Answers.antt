@@ -1,7 +1,6 @@
-use Rattle.std.proofs.Common.{◌≡◌, ℕ, ◌+◌, ◌≤◌, false, length, take, ap, arith}
+use Rattle.std.proofs.Common.{◌+◌, false, length, ap, arith}
 use Rattle.field.specs.Held.{key_of, value_of}
 use Rattle.page.specs.Content.Entry.{leaf}
-use Rattle.page.specs.Image.{entry_bytes}
 use Rattle.page_build.proofs.Entering.{field-short, fresh-is, fresh-whole, leaf-bytes}
 use Rattle.page_build.proofs.fresh.Fresh.of_leaf.Goals as goal
 
@@ -20,14 +19,12 @@ invariant_of-result c =
     let a = ap length c.prefixed-first.ensures in
     let b = ap length c.prefixed-second.ensures in
     let w = leaf-bytes (key_of c.args.key.now) (value_of c.args.value.now) c.prefixed-first.result.now c.prefixed-second.result.now
-    c.joined-bytes.result c.prefixed-first.ensures c.prefixed-second.ensures c.joined-bytes.ensures in (
-      omega arith,
-      (
-        fresh-whole false (leaf (key_of c.args.key.now) (value_of c.args.value.now))
-            (length c.prefixed-first.result.now + length c.prefixed-second.result.now) c.joined-bytes.result tt w,
-        tt,
-      ),
-    )
+    c.joined-bytes.result c.prefixed-first.ensures c.prefixed-second.ensures c.joined-bytes.ensures in
+    record {
+      fits = omega arith;
+      whole = fresh-whole false (leaf (key_of c.args.key.now) (value_of c.args.value.now))
+          (length c.prefixed-first.result.now + length c.prefixed-second.result.now) c.joined-bytes.result tt w;
+    }
 
 pub returns : goal.returns
 returns c =

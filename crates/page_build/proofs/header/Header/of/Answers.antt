@@ -1,4 +1,4 @@
-use Rattle.std.proofs.Common.{◌≡◌, ℕ, ◌≤◌, true, List, length, Option, sym, ap, subst}
+use Rattle.std.proofs.Common.{◌≡◌, ℕ, ◌≤◌, true, List, length, Option, sym, subst}
 use Rattle.order.specs.Fences.{Bound}
 use Rattle.page.specs.Content.{Foster, foster_key}
 use Rattle.page.specs.Form.{is_short}

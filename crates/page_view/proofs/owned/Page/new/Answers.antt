@@ -3,10 +3,10 @@ use Rattle.page.specs.Content.{Content}
 use Rattle.page.specs.Form.{decode_page}
 use Rattle.page.specs.Image.{parse_page}
 use Rattle.page.proofs.Parsed.{sound-parts}
-use Rattle.page_view.proofs.page.Page.new.Goals as goal
+use Rattle.page_view.proofs.owned.Page.new.Goals as goal
 
 pub invariant_of-result : goal.invariant_of-result
-invariant_of-result g c = ((sound-parts g.O.KeyOrder.says c.args.image (sym c.check.ensures ∙ c.if-check.true)).0, tt)
+invariant_of-result g c = record { laid = (sound-parts g.O.KeyOrder.says c.args.image (sym c.check.ensures ∙ c.if-check.true)).0 }
 
 pub returns-then-check : goal.returns-then-check
 unfolding decode_page
