@@ -126,9 +126,8 @@ pub fn crc32c(bytes: &[u8]) -> u32
     register(ONES, bytes) ^ ONES
 }
 
-// The same for C: a pointer and a length.
-#[unsafe(no_mangle)]
-pub extern "C" fn seal_crc32c(bytes: &[u8]) -> u32
+// The same under the name that C callers know: the crate `seal_c` exports it.
+pub fn seal_crc32c(bytes: &[u8]) -> u32
     ensures { result ≡ crc bytes.now }
 {
     crc32c(bytes)
