@@ -1,7 +1,5 @@
-use Rattle.std.proofs.Common.{◌≡◌, ℕ, true, List, sym, ◌∙◌, subst}
+use Rattle.std.proofs.Common.{sym, ◌∙◌}
 use Rattle.order.specs.Orders.{by_byte}
-use Rattle.page.specs.Form.{is_ordered}
-use Rattle.page.specs.Image.{parse_page}
 use Rattle.page.proofs.Parsed.{sound-parts}
 use Rattle.page_tests.proofs.checked.measures.Goals as goal
 
