@@ -11,7 +11,7 @@ pub enum RepairAnswer {
 }
 
 pub fn repair_page<D: PageDevice>(device: &mut D, page: u32, spare: &[u8; 512]) -> RepairAnswer
-    ensures { Repaired (disk device.old) page spare.now result (disk device.new) }
+    ensures { Repaired (D.disk device.old) page spare.now result (D.disk device.new) }
 {
     if !device.powered() {
         return RepairAnswer::Off;

@@ -219,7 +219,7 @@ module _ (d e : Disk) (u : ℕ) (old bs r image : List ℕ) (on : true ≡ d.on)
 
   module _ (w : page.Wrote d u image write.Done e) where
     done-is : e ≡ outcome.changed page.lasts d u image
-    done-is = outcome.finished-unless-off d e u image write.Done w outcome.done-not-off ∙ written_is page.lasts
+    done-is = outcome.finished_unless_off d e u image write.Done w outcome.done-not-off ∙ written_is page.lasts
 
     done_on : true ≡ e.on
     done_on = sym (ap (λ (x : Disk). x.on) done-is)
@@ -254,7 +254,7 @@ module _ (d e : Disk) (u : ℕ) (old bs r image : List ℕ) (on : true ≡ d.on)
     cut-is = w.leaves ∙ written_is w.fate
 
     off : e.on ≡ false
-    off = outcome.off-means-off d e u image w
+    off = outcome.off_means_off d e u image w
 
     cut-pages : e.pages ≡ set d.pages u left
     unfolding left

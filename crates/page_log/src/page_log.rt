@@ -1,6 +1,6 @@
 // The log on a page device. Its power is that of the device.
 ghost use Rattle.std.specs.Prelude.{◌≡◌};
-ghost use Rattle.device.specs.Disk.{woken as wokenDisk};
+ghost use Rattle.device.specs.Disk.{woken as woken_disk};
 ghost use Rattle.wal.specs.Appends.{Appended};
 ghost use Rattle.wal.specs.Journal.{woken};
 ghost use Rattle.wal.specs.Slots.{LastPassing};
@@ -21,7 +21,7 @@ pub struct PageLog<D> {
 impl<D: PageDevice> PageLog<D> {
     // Wakes the device, which has to be on to be looked at. The row ends at the last slot that passes.
     pub fn new(mut device: D) -> PageLog<D>
-        ensures device { D.PageDevice.disk result.device ≡ wokenDisk (D.PageDevice.disk device) }
+        ensures device { D.PageDevice.disk result.device ≡ woken_disk (D.PageDevice.disk device) }
         ensures ends { LastPassing (page_slots (D.PageDevice.disk device)) result.used }
     {
         device.wake();

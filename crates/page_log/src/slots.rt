@@ -5,8 +5,8 @@ ghost use Rattle.page_log.specs.Pages.{looked, paged, page_room, page_slots, wit
 
 use device::{PageDevice, ReadAnswer};
 use field::put;
-use wal::{RecordAnswer, record_in};
 use seal::seal_512;
+use wal::{RecordAnswer, record_in};
 
 // The page of a record.
 pub fn page_of(record: &[u8; 128]) -> [u8; 512]
@@ -19,7 +19,7 @@ pub fn page_of(record: &[u8; 128]) -> [u8; 512]
 }
 
 pub fn room<D: PageDevice>(device: &D) -> u32
-    ensures { result ≡ page_room (disk device.now) }
+    ensures { result ≡ page_room (D.disk device.now) }
 {
     let count = device.count();
     if count < u32::MAX as usize {
@@ -31,8 +31,8 @@ pub fn room<D: PageDevice>(device: &D) -> u32
 
 pub fn record_at<D: PageDevice>(device: &mut D, position: u32) -> RecordAnswer
     requires { 0 < position }
-    ensures value { result ≡ looked (disk device.old) position }
-    ensures same { disk device.new ≡ disk device.old }
+    ensures value { result ≡ looked (D.disk device.old) position }
+    ensures same { D.disk device.new ≡ D.disk device.old }
 {
     match device.read(position - 1) {
         ReadAnswer::Bytes(bytes) => record_in(&bytes, position),
@@ -42,9 +42,9 @@ pub fn record_at<D: PageDevice>(device: &mut D, position: u32) -> RecordAnswer
 }
 
 pub fn last_passing<D: PageDevice>(device: &mut D) -> u32
-    requires { (disk device.old).on ≡ true }
-    ensures value { LastPassing (page_slots (disk device.old)) result }
-    ensures same { disk device.new ≡ disk device.old }
+    requires { (D.disk device.old).on ≡ true }
+    ensures value { LastPassing (page_slots (D.disk device.old)) result }
+    ensures same { D.disk device.new ≡ D.disk device.old }
 {
     let mut position = room(device);
     while position > 0 {
@@ -58,9 +58,9 @@ pub fn last_passing<D: PageDevice>(device: &mut D) -> u32
 
 // How far a row of `used` positions reaches when the append of `last` was cut off.
 pub fn with_last<D: PageDevice>(device: &mut D, used: u32, last: &[u8; 128]) -> u32
-    requires { (disk device.old).on ≡ true }
-    ensures value { result ≡ with_last (page_slots (disk device.old)) used last.now }
-    ensures same { disk device.new ≡ disk device.old }
+    requires { (D.disk device.old).on ≡ true }
+    ensures value { result ≡ with_last (page_slots (D.disk device.old)) used last.now }
+    ensures same { D.disk device.new ≡ D.disk device.old }
 {
     if used >= room(device) {
         return used;

@@ -3,7 +3,7 @@ use Rattle.std.proofs.Common.{◌≡◌, ℕ, ◌+◌, Bool, true, false, cond, 
 use Rattle.std.proofs.lemmas.List.{length_push}
 use Rattle.wal.specs.Journal.{Journal, entry}
 use Rattle.wal.specs.Records.{stamped}
-use Rattle.wal.specs.Appends.{Fate, lasts, added, not_added, full, row_after, power_after, answer}
+use Rattle.wal.specs.Appends.{Fate, lasts, added, not_added, full, row_after, power_after}
 use Rattle.wal.specs.Laws.{Placed, AddedIsPlaced, FullChangesNothing, OffMeansOff, CapacityStays}
 use Rattle.wal.specs.declared.AppendAnswer.{AppendAnswer}
 use Rattle.wal.specs.declared.AppendAnswer.TheVariants.{Added, Full, Off}

@@ -5,13 +5,13 @@ use anyhow::anyhow;
 use device::{Card, PageDevice, ReadAnswer};
 use field::{Key, Value};
 use label::LabelSize;
-use wal::{AppendAnswer, Log, RecordAnswer, SlotLog};
 use order::ByteOrder;
 use page::check;
 use page_edit::{cost, format, put};
 use page_view::PageView;
 use record::{EntryKey, Record};
 use std::alloc::{AllocError, Global};
+use wal::{AppendAnswer, Log, RecordAnswer, SlotLog};
 
 const TABLE: [LabelSize; 3] = [
     LabelSize {
@@ -39,8 +39,8 @@ fn line_of(heap: Global, size: LabelSize) -> Result<Option<Line>, AllocError> {
     let width = size.width;
     let height = size.height;
     let bytes = size.bitmap_bytes();
-    let key = format!(heap, "{width}-{height}")?;
-    let value = format!(heap, "{bytes}")?;
+    let key = format!(in heap; "{width}-{height}")?;
+    let value = format!(in heap; "{bytes}")?;
     let text = value.as_bytes();
     if text.len() > 64 {
         return Ok(None);
