@@ -1,9 +1,9 @@
 // Logs in memory and on pages.
 use crate::failing::{Cut, Failing};
 use device::{Card, Mirror, PageDevice};
-use wal::{AppendAnswer, LengthAnswer, Log, RecordAnswer, SlotLog};
 use page_log::PageLog;
 use seal::is_sealed;
+use wal::{AppendAnswer, LengthAnswer, Log, RecordAnswer, SlotLog};
 
 // Answers as numbers: an Off, a Full or a lost record lies beyond every length.
 const OFF: u32 = 1_000_001;

@@ -1,7 +1,6 @@
 // The store, defined: what its calls do and answer, in every state and on every input.
 #![tactic(auto)]
 
-
 pub mod refusal;
 pub mod state;
 
