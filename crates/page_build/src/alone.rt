@@ -1,5 +1,7 @@
 // Rows that come from no page: of one entry, or of none.
-ghost use Rattle.std.specs.Prelude.{[]};
+ghost use Rattle.std.specs.Prelude.{◌≡◌, []};
+ghost use Rattle.page.specs.Content.Entry.{leaf};
+ghost use Rattle.page.specs.Image.{entry_bytes};
 ghost use Rattle.page_build.specs.Spliced.{listed};
 
 use crate::fresh::Fresh;
@@ -38,7 +40,10 @@ impl EntryRow for NoEntries {
         0
     }
 
-    fn entry(&self, _i: usize) -> &[u8] {
-        unreachable()
+    // There is no slot to ask for, so any number reads as an entry that is not there: no key and no value, each with its length.
+    fn entry(&self, _i: usize) -> &[u8]
+        ensures { result.now ≡ entry_bytes (leaf [] []) }
+    {
+        &[0, 0]
     }
 }
