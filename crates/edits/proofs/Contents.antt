@@ -53,19 +53,19 @@ module _ (says : Says) (r : Ranked says) where
       → entries_of l (lower-image (keyed says) empty_key d q x) ≡ below says d.bytes (entries_of l x)
   lower-entries d q x h zero =
       subst (λ f. f (upto (keyed says) d x.pairs) ≡ below says d.bytes (f x.pairs)) leaves_are
-      (below-is leaf_of leaf-key says r d (r.rank x.frame.low) (edge r.rank r.top (upper x.frame)) x.pairs h.pairs-ascend)
+      (below-is leaf_of leaf-key says r d (r.rank x.frame.low) (edge r.rank r.top (upper x.frame)) x.pairs h.pairs_ascend)
   lower-entries d q x h (suc l) =
       subst (λ f. f (upto (keyed says) d x.frame.kids) ≡ below says d.bytes (f x.frame.kids)) branches_are
-      (below-is branch_of branch-key says r d (r.rank x.frame.low) (edge r.rank r.top (upper x.frame)) x.frame.kids h.kids-ascend)
+      (below-is branch_of branch-key says r d (r.rank x.frame.low) (edge r.rank r.top (upper x.frame)) x.frame.kids h.kids_ascend)
 
   upper-entries : (d : Key) (x : Image Key Value) → Form r.rank r.top x → (l : ℕ)
       → entries_of l (upper-image (keyed says) empty_key d x) ≡ edit.from says d.bytes (entries_of l x)
   upper-entries d x h zero =
       subst (λ f. f (from (keyed says) d x.pairs) ≡ edit.from says d.bytes (f x.pairs)) leaves_are
-      (from_is leaf_of leaf-key says r d (r.rank x.frame.low) (edge r.rank r.top (upper x.frame)) x.pairs h.pairs-ascend)
+      (from_is leaf_of leaf-key says r d (r.rank x.frame.low) (edge r.rank r.top (upper x.frame)) x.pairs h.pairs_ascend)
   upper-entries d x h (suc l) =
       subst (λ f. f (from (keyed says) d x.frame.kids) ≡ edit.from says d.bytes (f x.frame.kids)) branches_are
-      (from_is branch_of branch-key says r d (r.rank x.frame.low) (edge r.rank r.top (upper x.frame)) x.frame.kids h.kids-ascend)
+      (from_is branch_of branch-key says r d (r.rank x.frame.low) (edge r.rank r.top (upper x.frame)) x.frame.kids h.kids_ascend)
 
 pub leaves_have : (says : Says) (k : Key) (es : List (Key × Value)) → has says k.bytes (leaves es) ≡ some (find (keyed says) k es)
 leaves_have says k es = subst (λ f. has says k.bytes (f es) ≡ some (find (keyed says) k es)) leaves_are (has-is leaf_of leaf-key says k es)
@@ -124,7 +124,7 @@ remove_is_the_trees says r p m n k x e h = λ i. record {
 }
   where
     go : (l : ℕ) → l ≡ 0 → entries_of l (removing (keyed says) empty_key k x) ≡ edit.without says k.bytes (entries_of l x)
-    go zero z = leaves-without says r k (r.rank x.frame.low) (edge r.rank r.top (upper x.frame)) x.pairs h.pairs-ascend
+    go zero z = leaves-without says r k (r.rank x.frame.low) (edge r.rank r.top (upper x.frame)) x.pairs h.pairs_ascend
     go (suc l) z = absurd (omega arith)
 
 pub adopting_is_the_trees : AdoptingIsTheTrees

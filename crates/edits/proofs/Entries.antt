@@ -2,8 +2,8 @@
 use Rattle.std.proofs.Common.{◌≡◌, ℕ, suc, ◌+◌, ◌*◌, ◌<◌, ◌≤◌, Bool, true, false, cond, not, ◌&&◌, ◌||◌, leb, List, [], ◌∷◌, length, get_or, Some, None, Option, Ordering, Less, Equal, Greater, sym, refl, ap, ◌∙◌, subst, arith}
 use mathlib.Core.Path.{fun_ext}
 use Prim.Native.Nat.{compare}
-use lib.Dec as dec
-use Rattle.std.specs.Ordering.{is_eq, is_lt, is-le}
+use Rattle.std.proofs.Math.Dec as dec
+use Rattle.std.specs.Ordering.{is_eq, is_lt, is_le}
 use Rattle.order.specs.Lawful.{Says}
 use Rattle.page.specs.Content.{Entry, entry_key, cost, costs}
 use Rattle.page.specs.Content.Entry.{leaf, branch}
@@ -29,7 +29,7 @@ lt-told Less = refl
 lt-told Equal = refl
 lt-told Greater = refl
 
-pub le-told : (o : Ordering) → dec.is_at_most (number o) ≡ is-le o
+pub le-told : (o : Ordering) → dec.is_le (number o) ≡ is_le o
 le-told Less = refl
 le-told Equal = refl
 le-told Greater = refl

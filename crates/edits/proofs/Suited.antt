@@ -1,6 +1,5 @@
 -- The test of a record on a content is the tree's on the image.
 use Rattle.std.proofs.Common.{◌≡◌, ℕ, zero, suc, Bool, false, cond, not, ◌&&◌, eqb, ltb, leb, List, Some, None, Option, sym, refl, ap, ◌∙◌, ap₂, arith}
-use lib.Dec as dec
 use Rattle.order.specs.Fences.{Bound, is_below}
 use Rattle.order.specs.Lawful.{Says}
 use Rattle.page.specs.Content.{costs}

@@ -7,7 +7,6 @@ use Rattle.order.specs.Lawful.{Says}
 use Rattle.device.specs.Disk.{Disk, Page, holds, unreadable, page_at, reaches, shown}
 use Rattle.device.specs.Writes.{lasts, written}
 use Rattle.device.specs.declared.ReadAnswer.TheVariants as read
-use Rattle.tree.specs.Rows.{by}
 use Rattle.tree.specs.Tree.{Image, edge, upper_of}
 use Rattle.tree.specs.Log.{Built, rebuild}
 use Rattle.tree.specs.Log.Built.{Done, Lost, Misfit}
@@ -77,7 +76,7 @@ built_is_sturdy says w p n x e = built_sturdy (keyed says) (rec_at w.journal) (r
 form-formed : (says : Says) (r : Ranked says) (x : Image Key Value) → Form r.rank r.top x → Formed r.rank r.top x
 form-formed says r x form = record {
   foster-above = λ f e. subst (λ (o : Option (Key × ℕ)). r.rank x.frame.low < edge r.rank r.top (upper_of o x.frame.high)) e form.spans;
-  ascends = form.kids-ascend;
+  ascends = form.kids_ascend;
 }
 
 built-is-formed : (says : Says) (r : Ranked says) (w : World) (p n : ℕ) (x : Image Key Value) → image_at says w.journal p n ≡ Done x → Formed r.rank r.top x

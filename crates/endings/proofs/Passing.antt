@@ -21,7 +21,7 @@ use Rattle.page.proofs.Pages.{Fit, parse-encode}
 use Rattle.page.proofs.Parsed.{foster-some}
 use Rattle.device.specs.Disk.{Page, holds, unreadable}
 use Rattle.tree.specs.Rows.{Ascends}
-use Rattle.tree.specs.Tree.{Image, edge, upper, upper_of}
+use Rattle.tree.specs.Tree.{Image, edge, upper_of}
 use Rattle.tree.specs.Walk.{Formed}
 use Rattle.tree.specs.Worlds.{passes}
 use Rattle.tree.proofs.Upd.{none-some}

@@ -1,7 +1,7 @@
 -- What holds of all entries of a row, and what a row costs, after a change; by any order at all.
 use Rattle.std.proofs.Common.{ℕ, ◌+◌, ◌≤◌, List, [], ◌∷◌, arith}
 use Prim.Native.Nat.{Ordering}
-use lib.Dec.{compare_is_eq}
+use Rattle.std.proofs.Math.Dec.{compare_is_eq}
 use Rattle.std.proofs.lemmas.Bool.{cond_both}
 use Rattle.ranks.specs.Lists.{All}
 use Rattle.tree.specs.Rows.{set, without, upto, from, is_less}

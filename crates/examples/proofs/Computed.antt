@@ -1,5 +1,5 @@
 -- The worked examples, computed.
-use Rattle.std.proofs.Common.{◌≡◌, ℕ, refl}
+use Rattle.std.proofs.Common.{ℕ, refl}
 use Rattle.seal.specs.Crc.{bit_step, steps, byte_step, run}
 use Rattle.field.specs.Fields.{le2, half, word, prefixed, field, field_at, are_zeros, is_field}
 use Rattle.record.specs.Layout.{body, encode, parse}

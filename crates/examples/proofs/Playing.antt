@@ -1,23 +1,22 @@
 -- Runs built step by step: calls that the power outlasts, calls that it cuts off, harm and loss.
-use Rattle.std.proofs.Common.{◌≡◌, ℕ, zero, suc, ◌<◌, ◌≤◌, Bool, true, false, cond, not, ◌&&◌, ◌⊎◌, List, [], ◌∷◌, ◌++◌, map, length, get_or, set, replicate, Some, None, Ok, Err, Option, Result, sym, refl, ap, ◌∙◌, subst, ap₂, inl, inr, arith, length-set}
+use Rattle.std.proofs.Common.{◌≡◌, ℕ, zero, suc, ◌<◌, Bool, true, false, not, ◌&&◌, ◌⊎◌, List, [], ◌∷◌, ◌++◌, map, get_or, set, replicate, Some, None, Err, Option, Result, sym, refl, ap, ◌∙◌, subst, ap₂, inl, inr, arith, length-set}
 use mathlib.Core.Path.{subst₃}
 use Rattle.std.proofs.lemmas.Bool.{and_parts, true≢false}
 use Rattle.order.specs.Orders.{by_byte}
-use Rattle.device.specs.Disk.{Page, holds, unreadable, intact, page_at}
+use Rattle.device.specs.Disk.{Page, unreadable}
 use Rattle.device.specs.Writes as page
 use Rattle.wal.specs.Journal.{Entry, entry, lost}
 use Rattle.wal.specs.Appends as log
 use Rattle.tree.specs.Worlds.{Stored, Fails}
-use Rattle.images.specs.Keys.{Key, Value}
 use Rattle.images.specs.Images.{stored_page}
 use Rattle.model.specs.declared.refusal.Refusal.{Refusal}
 use Rattle.model.specs.declared.refusal.Refusal.TheVariants.{PowerFailed}
 use Rattle.model.specs.Worlds.{World, Action, acted, did, done, powered}
-use Rattle.model.specs.Plans.{Cut, Plays, Played}
+use Rattle.model.specs.Plans.{Plays}
 use Rattle.model.specs.declared.state.State.{State}
 use Rattle.model.specs.Calls.{Call, Reply, state_after, Served}
-use Rattle.model.specs.Runs.{Event, History, Added, event, new_records, bytes_in, is_lost, Reads, meant, Harm, Run}
-use Rattle.model.specs.Runs.Run.{calls, harms}
+use Rattle.model.specs.Runs.{History, Added, event, new_records, bytes_in, is_lost, Reads, meant, Harm, Run}
+use Rattle.model.specs.Runs.Run.{calls}
 use Rattle.examples.specs.Telling.{Store, planned, does, cut_off_world, cut, harmed, losing}
 
 -- every action is still powered when it is done

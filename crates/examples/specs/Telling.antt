@@ -1,9 +1,9 @@
 -- A store that is asked one call after another, and what it answers, as numbers.
-use Rattle.std.specs.Prelude.{ℕ, zero, suc, Bool, true, false, cond, List, [], ◌∷◌, ◌++◌, length, replicate, Ok, Err, Result, slice_index, slice_set}
+use Rattle.std.specs.Prelude.{ℕ, zero, suc, true, List, [], ◌∷◌, ◌++◌, replicate, Ok, Err, Result, slice_index, slice_set}
 use Rattle.order.specs.Orders.{by_byte}
-use Rattle.device.specs.Disk.{Disk, Page, holds, unreadable}
+use Rattle.device.specs.Disk.{Page, holds, unreadable}
 use Rattle.device.specs.Writes as page
-use Rattle.wal.specs.Journal.{Journal, Entry, entry, lost}
+use Rattle.wal.specs.Journal.{Entry, entry, lost}
 use Rattle.wal.specs.Appends as log
 use Rattle.tree.specs.Log.{Built}
 use Rattle.tree.specs.Log.Built.{Done, Lost, Misfit}

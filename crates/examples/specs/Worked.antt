@@ -1,5 +1,5 @@
 -- Eight worked examples, as one statement about the definitions.
-use Rattle.std.specs.Prelude.{◌≡◌, ℕ, Bool, true, false, List, [], ◌∷◌, ◌++◌, length, get_or, drop, replicate, codes}
+use Rattle.std.specs.Prelude.{◌≡◌, ℕ, Bool, true, List, [], ◌∷◌, ◌++◌, length, drop, replicate, codes}
 use Rattle.std.specs.declared.cmp.Ordering.TheVariants.{Less, Greater}
 use Rattle.std.specs.Str.{bytes_eq}
 use Rattle.seal.specs.Crc.{crc}
@@ -10,7 +10,7 @@ use Rattle.wal.specs.Appends.{not_added}
 use Rattle.model.specs.Fetches.{chain}
 use Rattle.model.specs.Calls.{Call}
 use Rattle.model.specs.Calls.Call.{Create, Open, Put, Get, Tend}
-use Rattle.examples.specs.Telling.{Store, new_store, does, cut, told, tells, harmed, losing, page_then, briefs}
+use Rattle.examples.specs.Telling.{Store, new_store, does, cut, tells, harmed, losing, page_then, briefs}
 
 -- the i-th of ascending keys of 16 bytes, and its value of 64: a full entry
 unfoldable pub full_key : ℕ → List ℕ

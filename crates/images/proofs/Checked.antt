@@ -1,5 +1,5 @@
 -- A page of bytes that fails none of its checks has an image, and only such a page has one.
-use Rattle.std.proofs.Common.{◌≡◌, ℕ, zero, suc, ◌+◌, ◌<◌, ◌≤◌, Bool, true, false, cond, eqb, ltb, leb, List, [], ◌∷◌, length, get_or, take, drop, Some, None, Option, sym, refl, ap, ◌∙◌, subst, arith}
+use Rattle.std.proofs.Common.{◌≡◌, ℕ, zero, suc, ◌+◌, ◌<◌, ◌≤◌, Bool, true, false, cond, eqb, ltb, leb, List, [], ◌∷◌, length, get_or, take, drop, Some, None, Option, sym, refl, ap, ◌∙◌, arith}
 use Rattle.std.proofs.lemmas.Bool.{and_parts, and_from, leb-true, lt-ltb}
 use Rattle.seal.specs.Seal.{is_sealed}
 use Rattle.field.specs.Fields.{word, half, field_at}
@@ -8,9 +8,9 @@ use Rattle.page.specs.Image.{front, after, entry_of, entries_at, bound_at, foste
 use Rattle.page.specs.Form.{is_child, is_entry, are_entries, is_foster, is_form, is_laid, is_sound, decode_page}
 use Rattle.page.specs.Form.{is_short as is_bound}
 use Rattle.order.specs.Lawful.{Says}
-use Rattle.device.specs.Disk.{Page, holds, unreadable}
+use Rattle.device.specs.Disk.{holds, unreadable}
 use Rattle.tree.specs.Tree.{Image}
-use Rattle.tree.specs.Worlds.{Stored, passes}
+use Rattle.tree.specs.Worlds.{passes}
 use Rattle.images.specs.Keys.{Key, Value, is_short, fence_of, key_of, value_of}
 use Rattle.images.specs.Images.{bound_in, foster_in, pairs_in, kids_in, entries_in, image_in, stored_as, stored_in, stored_page}
 use Rattle.images.specs.Checks.{first_check, APagePassesExactlyIfNoCheckFails}

@@ -1,5 +1,5 @@
 -- The image of a page as the tree has it, in bytes, and the checks of a page.
-use Rattle.std.specs.Prelude.{ℕ, zero, suc, Bool, true, false, cond, List, [], ◌∷◌, Some, None, Option, ◌==◌}
+use Rattle.std.specs.Prelude.{ℕ, zero, suc, cond, List, [], ◌∷◌, Some, None, Option, ◌==◌}
 use Rattle.order.specs.Fences.{Bound}
 use Rattle.order.specs.Lawful.{Says}
 use Rattle.field.specs.Fields.{word}

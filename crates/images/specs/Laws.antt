@@ -1,9 +1,9 @@
 -- What is written of pages and records is read back.
-use Rattle.std.specs.Prelude.{◌≡◌, ℕ, zero, suc, ◌^◌, ◌<◌, ◌≤◌, Bool, true, false, List, [], length, Some, None, Option}
+use Rattle.std.specs.Prelude.{◌≡◌, ℕ, suc, ◌^◌, ◌<◌, ◌≤◌, false, List, [], length, Some, None}
 use Rattle.order.specs.Lawful.{Says, Lawful}
 use Rattle.ranks.specs.Lists.{All}
 use Rattle.ranks.specs.Ranks.{Ranking}
-use Rattle.device.specs.Disk.{Page, holds, unreadable, intact}
+use Rattle.device.specs.Disk.{Page, holds, intact}
 use Rattle.wal.specs.Records.{stamped}
 use Rattle.tree.specs.Rows.{by}
 use Rattle.tree.specs.Tree.{Image}
@@ -11,10 +11,9 @@ use Rattle.tree.specs.Log.{Change, Rec}
 use Rattle.tree.specs.Log.Change.{Format, Put, Remove, Foster, Adopt, Grow}
 use Rattle.tree.specs.Halves.{total}
 use Rattle.tree.specs.Suits.{Form}
-use Rattle.tree.specs.Worlds.{Stored}
 use Rattle.images.specs.Keys.{Key, Value, empty_key, keyed, pair_cost, kid_cost}
 use Rattle.images.specs.Images.{encode_image, stored_page}
-use Rattle.images.specs.Records.{encode_rec, decode_rec, names_well}
+use Rattle.images.specs.Records.{encode_rec, decode_rec}
 
 -- an order of keys told by numbers, as the tree compares them
 pub record Ranked (says : Says) : Type 0 where

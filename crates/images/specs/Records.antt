@@ -1,5 +1,5 @@
 -- The tree's records in bytes.
-use Rattle.std.specs.Prelude.{ℕ, Bool, true, false, cond, not, ◌&&◌, List, [], Some, None, Option, ◌==◌, nat_lt}
+use Rattle.std.specs.Prelude.{ℕ, Bool, true, cond, not, ◌&&◌, List, Some, None, Option, ◌==◌, nat_lt}
 use Rattle.record.specs.Contents.{Content, format, put, remove, foster, adopt, grow, encode_record, decode_at}
 use Rattle.wal.specs.Journal.{Entry, entry, lost}
 use Rattle.tree.specs.Log.{Change, Rec}

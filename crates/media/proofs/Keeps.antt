@@ -94,8 +94,8 @@ module _ (says : Says) (r : Ranked says) where
   pub harm_opened : (added : Added) (w e : World) → Opened says r added w → Harm says added w e → Opened says r added e
   harm_opened added w e o h = record {
     some = o.some;
-    disk-on = h.disk-power ∙ o.disk-on;
-    journal-on = h.journal-power ∙ o.journal-on;
+    disk-on = h.disk_power ∙ o.disk-on;
+    journal-on = h.journal_power ∙ o.journal-on;
     born-is = ap (λ (ix : List ℕ). length ix) h.index ∙ o.born-is;
     newest-is = λ p. ap (λ (ix : List ℕ). get_or ix p 0) h.index ∙ o.newest-is p;
   }

@@ -133,8 +133,8 @@ module _ (says : Says) (r : Ranked says) where
       some = [];
       first = nothing;
       now = added;
-      left = none-longer added w.journal.records e (subst (Media says r added) (sym k.leaves) (keeps k.in-append k.in-write))
-          (records_of (acted k.in-append k.in-write (stores p bs) w) k.leaves);
+      left = none-longer added w.journal.records e (subst (Media says r added) (sym k.leaves) (keeps k.in-append k.in_write))
+          (records_of (acted k.in-append k.in_write (stores p bs) w) k.leaves);
     }
 
     module _ (added : Added) (w : World) (m : Media says r added w) (c : Change Key Value) (ok : AptChange says r (made says r added) c) (bs : List ℕ)
@@ -147,7 +147,7 @@ module _ (says : Says) (r : Ranked says) where
 
       -- power fails in the append of a record
       cut-add : (ps : List ℕ) → Cut (adds ps bs) w res e → Stopped added w.journal.records (c ∷ cs) res e
-      cut-add ps k = elim (add-ends says r added w m c ok bs is on free siz enough k.in-append k.in-write ps) [
+      cut-add ps k = elim (add-ends says r added w m c ok bs is on free siz enough k.in-append k.in_write ps) [
         | inl a ↦ record {
           answers = k.answers;
           some = c ∷ [];
@@ -155,7 +155,7 @@ module _ (says : Says) (r : Ranked says) where
           now = added ++ (bs ∷ []);
           left = one_more [] (w.journal.records ++ (entry bs ∷ [])) (added ++ (bs ∷ [])) refl
               (none-longer (added ++ (bs ∷ [])) (w.journal.records ++ (entry bs ∷ [])) e (subst (Media says r (added ++ (bs ∷ []))) (sym k.leaves) a.media)
-              (records_of (acted k.in-append k.in-write (adds ps bs) w) k.leaves ∙ a.rows));
+              (records_of (acted k.in-append k.in_write (adds ps bs) w) k.leaves ∙ a.rows));
         }
         | inr a ↦ record {
           answers = k.answers;
@@ -163,7 +163,7 @@ module _ (says : Says) (r : Ranked says) where
           first = nothing;
           now = added;
           left = none-longer added w.journal.records e (subst (Media says r added) (sym k.leaves) a.media)
-              (records_of (acted k.in-append k.in-write (adds ps bs) w) k.leaves ∙ a.rows);
+              (records_of (acted k.in-append k.in_write (adds ps bs) w) k.leaves ∙ a.rows);
         }
       ]
 

@@ -1,5 +1,5 @@
 -- The seven calls: the plan of each, in every state and on every input, and the state after it.
-use Rattle.std.specs.Prelude.{◌≡◌, ℕ, zero, suc, Bool, true, false, cond, ◌&&◌, ◌||◌, List, [], ◌∷◌, length, Some, None, Ok, Err, Option, Result, ◌==◌, nat_le, nat_lt}
+use Rattle.std.specs.Prelude.{◌≡◌, ℕ, zero, suc, Bool, cond, ◌&&◌, List, [], ◌∷◌, length, Some, None, Ok, Err, Option, Result, ◌==◌, nat_le, nat_lt}
 use Rattle.order.specs.Lawful.{Says}
 use Rattle.tree.specs.Rows.{find, above}
 use Rattle.tree.specs.Tree.{Image, upper}
@@ -9,7 +9,7 @@ use Rattle.model.specs.declared.refusal.Refusal.TheVariants.{KeyLength, ValueLen
 use Rattle.model.specs.declared.state.State.{State}
 use Rattle.model.specs.declared.state.State.TheVariants as state
 use Rattle.model.specs.declared.state.Tended.{Tended}
-use Rattle.model.specs.Worlds.{World, Action, wakes, indexes, born, usable}
+use Rattle.model.specs.Worlds.{World, wakes, indexes, born, usable}
 use Rattle.model.specs.Plans.{Plan, ends, after, Played}
 use Rattle.model.specs.Ways.{Route, way}
 use Rattle.model.specs.Changes.{formatting, putting, removing, tending}

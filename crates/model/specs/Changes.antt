@@ -1,5 +1,5 @@
 -- A change to the tree as the store makes it: its record is appended, then the changed pages are written. And which change a call makes.
-use Rattle.std.specs.Prelude.{ℕ, zero, suc, ◌+◌, Bool, true, false, cond, List, [], ◌∷◌, ◌++◌, length, Some, None, Ok, Err, Option, ◌==◌, nat_le, nat_lt}
+use Rattle.std.specs.Prelude.{ℕ, ◌+◌, cond, List, [], ◌∷◌, length, Some, None, Ok, Err, Option, ◌==◌, nat_le, nat_lt}
 use Rattle.order.specs.Lawful.{Says}
 use Rattle.tree.specs.Rows.{find, set, is_less}
 use Rattle.tree.specs.Tree.{Image}

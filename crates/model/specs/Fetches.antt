@@ -1,5 +1,5 @@
 -- A page as the store comes by it: read and checked, or made again from its chain and written.
-use Rattle.std.specs.Prelude.{ℕ, zero, suc, Bool, true, false, cond, List, [], ◌∷◌, Some, None, Ok, Err, Option}
+use Rattle.std.specs.Prelude.{ℕ, zero, suc, cond, List, [], ◌∷◌, Some, None, Ok, Err, Option}
 use Rattle.order.specs.Lawful.{Says}
 use Rattle.device.specs.Disk.{holds, reading}
 use Rattle.device.specs.declared.ReadAnswer.{ReadAnswer}
@@ -15,7 +15,7 @@ use Rattle.images.specs.Keys.{Key, Value, empty_key, keyed, pair_cost, kid_cost}
 use Rattle.images.specs.Images.{encode_image, stored_page}
 use Rattle.images.specs.Records.{entry_rec}
 use Rattle.model.specs.declared.refusal.Refusal.TheVariants.{LostRecord, MisfitRecord, PowerFailed}
-use Rattle.model.specs.Worlds.{World, Action, stores, newest}
+use Rattle.model.specs.Worlds.{World, stores, newest}
 use Rattle.model.specs.Plans.{Plan, ends}
 
 -- the record at a position, as walking back meets it

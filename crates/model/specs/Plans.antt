@@ -1,5 +1,5 @@
 -- A plan: what a call does one after another, and answers. And how a plan is played.
-use Rattle.std.specs.Prelude.{◌≡◌, ℕ, Bool, true, false, cond, ◌⊎◌, List, [], ◌∷◌, ◌++◌, Ok, Err, Result}
+use Rattle.std.specs.Prelude.{◌≡◌, true, false, ◌⊎◌, List, [], ◌∷◌, ◌++◌, Ok, Err, Result}
 use Rattle.device.specs.Writes as page
 use Rattle.wal.specs.Appends as log
 use Rattle.model.specs.declared.refusal.Refusal.{Refusal}

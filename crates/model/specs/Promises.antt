@@ -14,8 +14,8 @@ use Rattle.model.specs.declared.state.State.TheVariants as state
 use Rattle.model.specs.Worlds.{World, newest}
 use Rattle.model.specs.Calls.{Call, Reply, Served}
 use Rattle.model.specs.Calls.Call.{Create, Open, Put, Remove, Get, Next, Tend}
-use Rattle.model.specs.Calls.Reply.{Accepted, Valued, Listed, Stepped}
-use Rattle.model.specs.Runs.{Event, History, Added, meaning, meant, Run}
+use Rattle.model.specs.Calls.Reply.{Accepted, Valued, Listed}
+use Rattle.model.specs.Runs.{History, Added, meaning, meant, Run}
 
 -- What stands: an accepted put or remove; one that was cut off, exactly if its own record reached the log; no other.
 

@@ -1,5 +1,5 @@
 -- Runs of a store from new: calls, power that fails in them, and harm and loss between them.
-use Rattle.std.specs.Prelude.{◌≡◌, ℕ, suc, Bool, true, false, cond, ◌&&◌, ◌⊎◌, List, [], ◌∷◌, ◌++◌, map, length, drop, Result}
+use Rattle.std.specs.Prelude.{◌≡◌, ℕ, suc, Bool, true, false, ◌⊎◌, List, [], ◌∷◌, ◌++◌, map, length, drop, Result}
 use Rattle.order.specs.Lawful.{Says}
 use Rattle.device.specs.Disk.{page_at, NewDevice}
 use Rattle.wal.specs.Journal.{Entry, entry, lost, entry_at}

@@ -1,5 +1,5 @@
 -- The way of a key: from page 0, each page fetched and held against what pointed to it.
-use Rattle.std.specs.Prelude.{ℕ, zero, suc, Bool, true, false, cond, List, [], ◌∷◌, Some, None, Ok, Err, Option, nat_lt}
+use Rattle.std.specs.Prelude.{ℕ, zero, suc, cond, List, [], ◌∷◌, Some, None, Ok, Err, Option, nat_lt}
 use Rattle.order.specs.Lawful.{Says}
 use Rattle.tree.specs.Tree.{Image}
 use Rattle.tree.specs.Walk.{Visit, visit, Due, check, onward_due, due-root}

@@ -1,5 +1,5 @@
 -- What a store works on, and what one action does to it.
-use Rattle.std.specs.Prelude.{ℕ, ◌+◌, min, Bool, true, false, cond, List, [], ◌∷◌, ◌++◌, length, nat_lt, slice_index, slice_set}
+use Rattle.std.specs.Prelude.{ℕ, ◌+◌, min, Bool, true, cond, List, [], ◌∷◌, ◌++◌, length, nat_lt, slice_index, slice_set}
 use Rattle.device.specs.Disk.{Disk, woken}
 use Rattle.device.specs.Writes as page
 use Rattle.wal.specs.Journal.{Journal}

@@ -1,6 +1,6 @@
 -- What each kind of change makes of a neat page is neat.
 use Rattle.std.proofs.Common.{◌≡◌, ℕ, suc, ◌<◌, List, [], ◌∷◌, refl, ap, arith}
-use lib.Dec.{compare_is_eq}
+use Rattle.std.proofs.Math.Dec.{compare_is_eq}
 use Rattle.ranks.specs.Lists.{All}
 use Rattle.tree.specs.Rows.{by, is_less, set, without, upto, from}
 use Rattle.tree.specs.Tree.{Image, putting, removing, lower-image, upper-image, gaining-image, ceding-image, risen-image}

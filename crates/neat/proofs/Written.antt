@@ -71,7 +71,7 @@ module _ {K V : Type 0} (rank : K → ℕ) (top : ℕ) (least : K) (ranked : Ran
   page-formed p b = record {
     spans = sound.shape.spans p b;
     foster-below = sound.shape.foster-below p b;
-    pairs_ascend = sound.pairs-ascend p b;
+    pairs_ascend = sound.pairs_ascend p b;
     kids_ascend = sound.shape.ascends p b;
     first-is = first-low rank top least ranked s.born (frames (tree s)) sound.shape p b;
   }

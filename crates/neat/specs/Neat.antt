@@ -1,6 +1,6 @@
 -- What the store's own changes make of pages can be written: each image has what the layout of a page asks, and each change what that of
 -- a record asks.
-use Rattle.std.specs.Prelude.{◌≡◌, ℕ, zero, suc, ◌<◌, ◌≤◌, List, [], ◌∷◌, Some, None, Option}
+use Rattle.std.specs.Prelude.{◌≡◌, ℕ, suc, ◌<◌, List, [], Some}
 use Rattle.ranks.specs.Lists.{All}
 use Rattle.ranks.specs.Ranks.{Key, Ranking}
 use Rattle.tree.specs.Rows.{by}

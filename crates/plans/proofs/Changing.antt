@@ -5,7 +5,6 @@ use Rattle.std.proofs.lemmas.Bool.{cond-false, lt-leb}
 use Rattle.std.proofs.lemmas.List.{length_push}
 use Rattle.order.specs.Lawful.{Says}
 use Rattle.ranks.specs.Lists.{All}
-use Rattle.device.specs.Disk as disk
 use Rattle.device.specs.Writes as page
 use Rattle.wal.specs.Journal.{Journal}
 use Rattle.wal.specs.Appends as log

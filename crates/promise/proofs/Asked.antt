@@ -119,7 +119,7 @@ module _ (says : Says) (w : World) where
     | inr h ↦ let k = h.0 in let a = asked-ok w (key_asked key) (get_key says room work) k h.2 in elim (room-told (leb 64 room)) [
       | inl e ↦ inl ((Buffer, buffer, a ∙ asked_err w (room_asked (leb 64 room)) (get_room says work k) Buffer e.0), λ j f. let t = leb-false 64 room e.1 in omega (arith, f.room-is))
       | inr g ↦ let b = asked-ok w (room_asked (leb 64 room)) (get_room says work k) 0 g.0 in elim (work_told w work) [
-        | inl e ↦ inl ((WorkList, work_list, a ∙ b ∙ asked_err w (work_asked w work) (get_work says k) WorkList e.0), λ j f. omega (arith, e.1, f.work-is))
+        | inl e ↦ inl ((WorkList, work_list, a ∙ b ∙ asked_err w (work_asked w work) (get_work says k) WorkList e.0), λ j f. omega (arith, e.1, f.work_is))
         | inr e ↦ inr (
           k,
           record { key-is = h.1; room-is = leb-true 64 room g.1; work_is = e.1 },

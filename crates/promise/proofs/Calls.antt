@@ -16,7 +16,7 @@ use Rattle.model.specs.Worlds.{World, done, born}
 use Rattle.model.specs.Plans.{Plan, ends, after}
 use Rattle.model.specs.Ways.{Route, route, way}
 use Rattle.model.specs.Changes.{putting, removing, tending}
-use Rattle.model.specs.Calls.{Call, Reply, state_after, replied, opened, put_on_way, remove_on_way, get_on_way, seeking, tend_done, tend_on_way, put_plan, remove_plan, get_plan, next_plan, tend_plan}
+use Rattle.model.specs.Calls.{Call, Reply, state_after, replied, put_on_way, remove_on_way, get_on_way, seeking, tend_done, tend_on_way, put_plan, remove_plan, get_plan, next_plan, tend_plan}
 use Rattle.model.specs.Calls.Call.{Create, Open, Put, Remove, Get, Next, Tend}
 use Rattle.model.specs.Calls.Reply.{Accepted, Stepped}
 use Rattle.model.specs.Promises.{refused_stands}

@@ -15,7 +15,7 @@ use Rattle.model.specs.Worlds.{World}
 use Rattle.model.specs.Plans.{after}
 use Rattle.model.specs.Ways.{way}
 use Rattle.model.specs.Calls.{Reply, calling, value_found, get_on_way, get_plan, Served}
-use Rattle.model.specs.Calls.Call.{Open, Get}
+use Rattle.model.specs.Calls.Call.{Get}
 use Rattle.model.specs.Calls.Reply.{Valued}
 use Rattle.model.specs.Runs.{History, Added, meaning}
 use Rattle.model.specs.Promises.{present, WellFormed, answer_of}

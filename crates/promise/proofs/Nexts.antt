@@ -12,7 +12,7 @@ use Rattle.model.specs.declared.state.State.{State}
 use Rattle.model.specs.declared.state.State.TheVariants as state
 use Rattle.model.specs.Worlds.{World, born}
 use Rattle.model.specs.Calls.{Reply, calling, next_plan, seeking, Served}
-use Rattle.model.specs.Calls.Call.{Open, Next}
+use Rattle.model.specs.Calls.Call.{Next}
 use Rattle.model.specs.Calls.Reply.{Listed}
 use Rattle.model.specs.Runs.{History, Added}
 use Rattle.model.specs.Promises.{present, LeastAbove}

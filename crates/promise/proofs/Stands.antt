@@ -1,7 +1,7 @@
 -- What stands by the calls of a history is what stands by the log.
 use Rattle.std.proofs.Common.{◌≡◌, ℕ, Bool, true, false, cond, ◌&&◌, ◌⊎◌, List, [], Some, None, Err, Option, Result, sym, refl, ap, ◌∙◌, inl, inr, arith}
 use Prim.Native.Nat.{compare}
-use lib.Dec.{compare_is_eq}
+use Rattle.std.proofs.Math.Dec.{compare_is_eq}
 use Rattle.std.specs.Str.{bytes_eq}
 use Rattle.std.proofs.lemmas.Slice.Eq.{bytes_eq-Decides}
 use Rattle.std.proofs.lemmas.Bool.{cases_eq}

@@ -1,5 +1,5 @@
 -- The image of a page with other entries, if they fit.
-use Rattle.std.proofs.Common.{◌≡◌, ℕ, Bool, true, cond, List, refl}
+use Rattle.std.proofs.Common.{◌≡◌, ℕ, List, refl}
 use Rattle.page.specs.Content.{Entry, Content}
 use Rattle.page_edit.specs.Edits.{with_entries, fitting_image, image_if}
 use Rattle.edits.specs.Suits.{have_room}

@@ -1,5 +1,5 @@
 -- Whether a key divides a page, by the slot at which it was found.
-use Rattle.std.proofs.Common.{◌≡◌, ℕ, zero, suc, ◌<◌, ◌≤◌, Bool, true, false, not, ◌&&◌, List, [], ◌∷◌, length, get_or, Ordering, Less, Equal, Greater, sym, refl, ap, ◌∙◌, subst, ap₂, arith}
+use Rattle.std.proofs.Common.{◌≡◌, ℕ, zero, suc, ◌<◌, ◌≤◌, Bool, false, not, ◌&&◌, List, [], ◌∷◌, length, get_or, Less, sym, refl, ap, ◌∙◌, subst, ap₂, arith}
 use Rattle.std.specs.Ordering.{is_eq}
 use Rattle.order.specs.Lawful.{Says, Itself, Turned}
 use Rattle.order.specs.Slots.{key_at, Ascending, Parted}

@@ -81,7 +81,7 @@ module _ (rank : Key → ℕ) (top : ℕ) (ranked : Ranking rank top empty_key) 
       is_leaf = a.is_leaf;
       holds = a.holds;
       all-born = a.all-born;
-      comes_to = a.comes-to;
+      comes_to = a.comes_to;
       none-lost = a.none-lost;
     })
     | inr a ↦ inr a

@@ -16,7 +16,7 @@ use Rattle.device.specs.Disk as disk
 use Rattle.device.specs.Disk.{holds, unreadable, page_at}
 use Rattle.device.specs.Writes as page
 use Rattle.wal.specs.Appends as log
-use Rattle.model.specs.Worlds.{World, stores, newest}
+use Rattle.model.specs.Worlds.{World, stores}
 use Rattle.model.specs.Plans.{Plan, ends}
 use Rattle.model.specs.Fetches.{image_at, mended, mending, checked, looked, fetching}
 use Rattle.model.specs.Runs.{Added, meaning}

@@ -103,7 +103,7 @@ module _ (says : Says) (r : Ranked says) (added : Added) where
 
         found : (e : Key × Value) → above (keyed says) k page.pairs ≡ Some e → NextAnswer k (Ok (Listed e.0.bytes e.1.bytes))
         found e h =
-            let f = above-some r.rank k _ _ page.pairs e (well.sound.pairs-ascend a.leaf a.leaf-born) (sym told-above ∙ h) in
+            let f = above-some r.rank k _ _ page.pairs e (well.sound.pairs_ascend a.leaf a.leaf-born) (sym told-above ∙ h) in
             inl (
               e,
               refl,

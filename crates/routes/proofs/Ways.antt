@@ -122,7 +122,7 @@ module _ (says : Says) (r : Ranked says) (added : Added) where
   way-told w m o k = let t = (way_so w m o k).0 in elim (way-comes says r added w m o k) [
     | inl a ↦ inl (
       record { pages = a.pages; leaf = a.leaf; way = a.way; leaf-born = a.leaf-born; is_leaf = a.is_leaf; holds = a.holds; all-born = a.all-born },
-      t ∙ ap routed a.comes-to,
+      t ∙ ap routed a.comes_to,
       a.none-lost,
     )
     | inr a ↦ inr (a.0, a.1, t ∙ ap routed a.2, a.3)

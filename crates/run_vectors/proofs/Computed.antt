@@ -1,5 +1,5 @@
 -- The runs made elsewhere, computed.
-use mathlib.Core.Path.{◌≡◌, refl}
+use mathlib.Core.Path.{refl}
 use Rattle.examples.proofs.Computed.{all_definitions}
 use Rattle.run_vectors.specs.Boxes.{bytes, patched, page_patched, last_passing, slot_after, memory_after, saved, restarted, page_edited, slot_edited, asked_box, zeroed, answers_of}
 use Rattle.run_vectors.specs.Made.{ops_bad, ops_small, ops_full, BadRun, SmallRun, FullRun, RunsMadeElsewhereAgree}

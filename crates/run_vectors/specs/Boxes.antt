@@ -1,5 +1,5 @@
 -- A store over a card and a log in memory, asked call by call: what it answers, where the card and the log may be edited between two starts.
-use Rattle.std.specs.Prelude.{Bool, true, List, [], ◌∷◌, ◌++◌, map, ℕ, zero, suc, ◌+◌, ◌*◌, ◌/◌, ◌%◌, ◌^◌, length, get_or, set, take, drop, replicate}
+use Rattle.std.specs.Prelude.{true, List, [], ◌∷◌, ◌++◌, map, ℕ, zero, suc, ◌+◌, ◌/◌, ◌%◌, ◌^◌, length, get_or, set, take, drop, replicate}
 use Rattle.order.specs.Lawful.{Says}
 use Rattle.device.specs.Disk.{Page, holds, unreadable}
 use Rattle.wal.specs.Journal.{Entry, entry, lost}

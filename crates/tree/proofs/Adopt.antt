@@ -1,11 +1,11 @@
-use Rattle.std.proofs.Common.{◌≡◌, ℕ, suc, ◌<◌, ◌≤◌, Bool, true, false, cond, ◌⊎◌, List, [], ◌∷◌, Some, None, Option, sym, refl, ap, ◌∙◌, subst, subst₂, inl, inr, arith}
+use Rattle.std.proofs.Common.{◌≡◌, ℕ, suc, ◌<◌, ◌⊎◌, Some, None, Option, sym, refl, ap, ◌∙◌, subst, subst₂, inl, inr, arith}
 use mathlib.Core.Path.{fun_ext, subst₃}
-use Rattle.tree.specs.Rows.{find, upto, from, set, without, floor, ceil, Ascends, by, is_less}
+use Rattle.tree.specs.Rows.{find, ceil, Ascends, by}
 use Rattle.tree.specs.Tree.{Frame, Image, State, Shape, Sound, Points, Ranking, upd, upper, upper_of, edge, Holds, kid, bound, frames, adopt, gaining, ceding, gaining-image, ceding-image, MayAdopt}
 use Rattle.tree.proofs.Rows.{set-ascends, floor-le, floor_ge, floor-set-in, floor-set-below, floor-set-above, ceil-set-in, ceil-set-from, ceil_set_past, floor-same, ceil-same, ceil-above, ceil-le, floor-found}
 use Rattle.tree.proofs.Divide.{points_at}
-use Rattle.tree.proofs.Upd.{upd-here, upd_there, upd_cases, upd-keeps, upd-map, none-some}
-use Rattle.std.proofs.lemmas.Bool.{cases_lt, cases_eq}
+use Rattle.tree.proofs.Upd.{upd-here, upd_cases, upd-map, none-some}
+use Rattle.std.proofs.lemmas.Bool.{cases_lt}
 
 module _ {K : Type 0} (rank : K → ℕ) (top : ℕ) (least : K) (ranked : Ranking rank top least) (born : ℕ) (frame : ℕ → Frame K)
     (shape : Shape rank top least born frame) where
@@ -286,7 +286,7 @@ module _ {K V : Type 0} (rank : K → ℕ) (top : ℕ) (least : K) (ranked : Ran
         (adopt-shape rank top least ranked s.born (frames s) sound.shape p y k c may.is-born may.below may.level may.key
         may.holds may.leads may.foster);
     pairs_ascend = λ q b. subst₃ (λ a es u. Ascends rank (rank a) es (edge rank top u)) (sym (stays (λ x. x.low) refl refl q)) (sym (pairs-kept q))
-        (sym (stays upper (sym upper-y-image) refl q)) (sound.pairs-ascend q b);
+        (sym (stays upper (sym upper-y-image) refl q)) (sound.pairs_ascend q b);
     leaves = λ q b j e h. ap (find (by rank) j) (pairs-kept q) ∙ sound.leaves q b j (sym (stays (λ x. x.level) refl refl q) ∙ e) (
       omega (arith, h.0, ap rank (stays (λ x. x.low) refl refl q)),
       omega (arith, h.1, ap (edge rank top) (stays upper (sym upper-y-image) refl q)),

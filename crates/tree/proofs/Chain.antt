@@ -1,10 +1,10 @@
-use Rattle.std.proofs.Common.{◌≡◌, ℕ, zero, suc, ◌<◌, ◌≤◌, Bool, true, false, cond, ltb, ◌⊎◌, List, [], ◌∷◌, Some, None, Option, sym, refl, ap, ◌∙◌, subst, subst₂, inl, inr, arith}
+use Rattle.std.proofs.Common.{◌≡◌, ℕ, zero, suc, ◌<◌, ◌≤◌, Bool, true, cond, List, [], ◌∷◌, Some, None, Option, sym, refl, ap, subst, inl, inr, arith}
 use Prim.Native.Nat.{Ordering}
 use Rattle.tree.specs.Tree.{Image}
-use Rattle.tree.specs.Log.{Change, Rec, Source, source, make, made, blank, touched, Logged, append, run, start, Linked, at, Chain, Built, then_make, at_source, at_slot, or_lost, rebuild, verdict, Rebuilt, LessSome}
+use Rattle.tree.specs.Log.{Change, Rec, Source, source, make, made, touched, Logged, append, run, start, Linked, at, Chain, then_make, or_lost, rebuild, verdict, Rebuilt, LessSome}
 use Rattle.tree.specs.Log.Source.{Out, Fresh, Earlier}
 use Rattle.tree.specs.Log.Chain.{first, later}
-use Rattle.tree.specs.Log.Built.{Done, Lost, Misfit}
+use Rattle.tree.specs.Log.Built.{Done, Misfit}
 use Rattle.std.proofs.lemmas.Bool.{lt-ltb}
 
 module _ {K V : Type 0} (cmp : K → K → Ordering) (least : K) (suits : Change K V → ℕ → Image K V → Bool) where

@@ -1,7 +1,7 @@
-use Rattle.std.proofs.Common.{◌≡◌, ℕ, suc, ◌<◌, ◌≤◌, Bool, true, false, cond, ◌⊎◌, List, [], ◌∷◌, Some, None, Option, sym, refl, ap, ◌∙◌, subst, subst₂, inl, inr, arith}
+use Rattle.std.proofs.Common.{◌≡◌, ℕ, suc, ◌<◌, ◌≤◌, ◌⊎◌, Some, None, Option, sym, refl, ap, ◌∙◌, subst, subst₂, inl, inr, arith}
 use mathlib.Core.Path.{fun_ext}
-use Rattle.tree.specs.Rows.{find, upto, from, set, without, floor, ceil, Ascends, by, is_less}
-use Rattle.tree.specs.Tree.{Frame, Image, State, Shape, Sound, Points, Ranking, upd, upper, upper_of, edge, Holds, kid, bound, frames, divide, lower-part, upper-part, lower-image, upper-image, MayDivide}
+use Rattle.tree.specs.Rows.{find, Ascends, by}
+use Rattle.tree.specs.Tree.{Frame, Image, State, Shape, Sound, Points, Ranking, upd, upper, edge, Holds, kid, bound, frames, divide, lower-part, upper-part, lower-image, upper-image, MayDivide}
 use Rattle.tree.proofs.Rows.{upto-ascends, from-ascends, floor-upto, floor-from, ceil-upto, ceil-from, find-upto, find-from}
 use Rattle.tree.proofs.Upd.{upd-here, upd_there, upd_cases, upd-keeps, upd-map}
 
@@ -183,9 +183,9 @@ module _ {K V : Type 0} (rank : K → ℕ) (top : ℕ) (least : K) (ranked : Ran
     shape = subst (Shape rank top least (suc s.born)) frames-after
         (divide-shape rank top least ranked s.born (frames s) sound.shape p d may.is-born may.above may.below may.entry);
     pairs_ascend = each-image (λ q z. Ascends rank (rank z.frame.low) z.pairs (edge rank top (upper z.frame)))
-        (from-ascends rank _ _ d (s.page p).pairs (sound.pairs-ascend p may.is-born))
-        (upto-ascends rank _ _ d (s.page p).pairs (sound.pairs-ascend p may.is-born))
-        sound.pairs-ascend;
+        (from-ascends rank _ _ d (s.page p).pairs (sound.pairs_ascend p may.is-born))
+        (upto-ascends rank _ _ d (s.page p).pairs (sound.pairs_ascend p may.is-born))
+        sound.pairs_ascend;
     leaves = each-image
         (λ q z. (k : K) → z.frame.level ≡ 0 → Holds rank top z.frame k → find (by rank) k z.pairs ≡ s.stands k)
         (λ k e h. find-from rank k d (s.page p).pairs h.0 ∙ sound.leaves p may.is-born k e (omega (arith, may.above), h.1))

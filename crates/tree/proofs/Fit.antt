@@ -1,13 +1,12 @@
 -- What the plans append suits the images that it changes, and keeps every page within its room.
-use Rattle.std.proofs.Common.{◌≡◌, ℕ, zero, suc, ◌+◌, ◌*◌, ◌<◌, ◌≤◌, Bool, true, false, cond, not, ◌&&◌, eqb, ltb, leb, ◌⊎◌, List, [], ◌∷◌, Some, None, Option, sym, refl, ap, ◌∙◌, subst, inl, inr, arith}
-use Prim.Native.Nat.{Ordering, compare}
-use lib.Dec.{is_le, compare_is_eq}
-use Rattle.tree.specs.Rows.{set, without, find, upto, from, Ascends, by, is_less}
-use Rattle.tree.specs.Tree.{Frame, Image, Ranking, Sound, Holds, edge, upper, kid, frames, lower-image, upper-image, upd, MayAdopt}
-use Rattle.tree.specs.Log.{Change, Rec, Source, source, source_of, make, made, Logged, tree, May, Linked, blank}
+use Rattle.std.proofs.Common.{◌≡◌, ℕ, zero, suc, ◌<◌, ◌≤◌, Bool, true, false, cond, not, eqb, ltb, leb, List, [], ◌∷◌, Some, None, Option, sym, refl, ap, ◌∙◌, subst, inl, inr, arith}
+use Rattle.std.proofs.Math.Dec.{is_le}
+use Rattle.tree.specs.Rows.{set, without, find, upto, from, by, is_less}
+use Rattle.tree.specs.Tree.{Frame, Image, Ranking, Sound, Holds, edge, upper, kid, frames, lower-image, upper-image}
+use Rattle.tree.specs.Log.{Change, Source, source, make, made, Logged, tree, Linked, blank}
 use Rattle.tree.specs.Log.Change.{Format, Put, Remove, Foster, Adopt, Grow}
 use Rattle.tree.specs.Log.Source.{Out, Fresh, Earlier}
-use Rattle.tree.specs.Halves.{total, some, divides-row, divider, Cheap, Divides}
+use Rattle.tree.specs.Halves.{total, some, divider, Divides}
 use Rattle.tree.specs.Suits.{below, in_bounds, is-foster, divides-page, adopts, suits}
 use Rattle.tree.specs.Plan.{linked, changed, changes, divided-put, planned-put, divided-branch, step-at, step-or, steps-below, rootwards, planned_tend, MayAll, Priced}
 use Rattle.tree.specs.Plan.{all-linked, Begins}
@@ -153,7 +152,7 @@ module _ {K V : Type 0} (rank : K → ℕ) (top : ℕ) (least : K) (ranked : Ran
         cond_both (leb (total pair-cost (set (by rank) k v (s.page p).pairs)) 436) (Put p k v ∷ []) (divided-put (by rank) pair-cost kid-cost p s.born k v (divider pair-cost (s.page p).pairs))
         (FitAll s)
         (λ t. (fit-put s p k v (put-suits (s.page p) k v p p e h (leb-true (total pair-cost (set (by rank) k v (s.page p).pairs)) 436 t)), tt))
-        (λ t. two t (divides rank pair-cost 84 _ _ (s.page p).pairs (sound.pairs-ascend p b) (priced.pairs p)
+        (λ t. two t (divides rank pair-cost 84 _ _ (s.page p).pairs (sound.pairs_ascend p b) (priced.pairs p)
         (omega (arith, leb-false (total pair-cost (set (by rank) k v (s.page p).pairs)) 436 t, set-total rank pair-cost k v (s.page p).pairs))))
       where
         two : leb (total pair-cost (set (by rank) k v (s.page p).pairs)) 436 ≡ false

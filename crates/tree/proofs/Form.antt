@@ -1,18 +1,17 @@
 -- A record that suits a well-formed image makes a well-formed image, whatever the log.
-use Rattle.std.proofs.Common.{◌≡◌, ℕ, zero, suc, ◌<◌, ◌≤◌, Bool, true, false, cond, not, ◌&&◌, eqb, ltb, leb, ◌⊎◌, List, [], ◌∷◌, Some, None, Option, sym, refl, ap, ◌∙◌, subst, inl, inr, arith}
-use Prim.Native.Nat.{Ordering, compare}
-use lib.Dec.{is_le, compare_is_eq}
-use Rattle.tree.specs.Rows.{set, without, find, upto, from, Ascends, by, is_less}
+use Rattle.std.proofs.Common.{◌≡◌, ℕ, zero, suc, ◌<◌, ◌≤◌, Bool, true, false, cond, not, eqb, ltb, List, [], ◌∷◌, Some, None, Option, sym, refl, ap, ◌∙◌, subst, inl, inr, arith}
+use Rattle.std.proofs.Math.Dec.{is_le, compare_is_eq}
+use Rattle.tree.specs.Rows.{set, find, upto, from, Ascends, by}
 use Rattle.tree.specs.Tree.{Frame, Image, Ranking, edge, upper, upper_of, lower-image, upper-image, ceding-image, gaining-image}
 use Rattle.tree.specs.Log.{Change, Rec, Source, source, source_of, make, blank, Built, then_make, at_source, at_slot, rebuild}
 use Rattle.tree.specs.Log.Change.{Format, Put, Remove, Foster, Adopt, Grow}
 use Rattle.tree.specs.Log.Source.{Out, Fresh, Earlier}
 use Rattle.tree.specs.Log.Built.{Done, Lost, Misfit}
-use Rattle.tree.specs.Halves.{total, some, divides-row}
+use Rattle.tree.specs.Halves.{some, divides-row}
 use Rattle.tree.specs.Suits.{below, in_bounds, is-foster, divides-page, adopts, suits, Form, first_of}
-use Rattle.tree.proofs.Rows.{set-ascends, without-ascends, upto-ascends, from-ascends, find-below, from_all, less-true}
+use Rattle.tree.proofs.Rows.{set-ascends, without-ascends, upto-ascends, from-ascends, find-below, less-true}
 use Rattle.tree.proofs.Upd.{none-some}
-use Rattle.std.proofs.lemmas.Bool.{cond_both, cases_lt, leb-true, and_parts, not-true}
+use Rattle.std.proofs.lemmas.Bool.{cond_both, cases_lt, leb-true, and_parts}
 
 module _ {K : Type 0} (rank : K → ℕ) (top : ℕ) (least : K) (ranked : Ranking rank top least) where
   -- what a bound tells
@@ -101,20 +100,20 @@ module _ {K V : Type 0} (rank : K → ℕ) (top : ℕ) (least : K) (ranked : Ran
     where
       go : (l : ℕ) → x.frame.level ≡ l → divides-page (by rank) pair-cost kid-cost d l x ≡ true → Cut d x
       go zero e s = record {
-        above = (inner rank d _ _ x.pairs form.pairs-ascend s).above;
+        above = (inner rank d _ _ x.pairs form.pairs_ascend s).above;
         below-is = (bounded rank top least ranked x.frame d i).1;
         entry = λ l j. absurd (omega arith);
       }
       go (suc l) e s =
-          let n = inner rank d _ _ x.frame.kids form.kids-ascend s in
+          let n = inner rank d _ _ x.frame.kids form.kids_ascend s in
           record { above = n.above; below-is = (bounded rank top least ranked x.frame d i).1; entry = λ _ _. (n.value, n.entry) }
 
   ceded : (k : K) (c : ℕ) (x : Image K V) → Form rank top x → is-foster (by rank) k c x.frame.foster ≡ true → Form rank top (ceding-image (by rank) least k x)
   ceded k c x form t = record {
     spans = subst (λ n. rank x.frame.low < n) same form.spans;
     foster-below = λ f e. absurd (none-some f e);
-    pairs_ascend = subst (λ n. Ascends rank (rank x.frame.low) x.pairs n) same form.pairs-ascend;
-    kids_ascend = subst (λ n. Ascends rank (rank x.frame.low) x.frame.kids n) same form.kids-ascend;
+    pairs_ascend = subst (λ n. Ascends rank (rank x.frame.low) x.pairs n) same form.pairs_ascend;
+    kids_ascend = subst (λ n. Ascends rank (rank x.frame.low) x.frame.kids n) same form.kids_ascend;
     first-is = form.first-is;
   }
     where
@@ -133,8 +132,8 @@ module _ {K V : Type 0} (rank : K → ℕ) (top : ℕ) (least : K) (ranked : Ran
       record {
         spans = form.spans;
         foster-below = form.foster-below;
-        pairs_ascend = form.pairs-ascend;
-        kids_ascend = set-ascends rank _ _ k c x.frame.kids form.kids-ascend h.0 h.1;
+        pairs_ascend = form.pairs_ascend;
+        kids_ascend = set-ascends rank _ _ k c x.frame.kids form.kids_ascend h.0 h.1;
         first-is = λ m e. first-set rank ranked.one x.frame.low k c x.frame.kids (form.first-is m e) h.0;
       }
 
@@ -145,15 +144,15 @@ module _ {K V : Type 0} (rank : K → ℕ) (top : ℕ) (least : K) (ranked : Ran
       record {
         spans = form.spans;
         foster-below = form.foster-below;
-        pairs_ascend = set-ascends rank _ _ k v x.pairs form.pairs-ascend i.0 i.1;
-        kids_ascend = form.kids-ascend;
+        pairs_ascend = set-ascends rank _ _ k v x.pairs form.pairs_ascend i.0 i.1;
+        kids_ascend = form.kids_ascend;
         first-is = form.first-is;
       }
   made-formed (Remove q k) p x t form = record {
     spans = form.spans;
     foster-below = form.foster-below;
-    pairs_ascend = without-ascends rank _ _ k x.pairs form.pairs-ascend;
-    kids_ascend = form.kids-ascend;
+    pairs_ascend = without-ascends rank _ _ k x.pairs form.pairs_ascend;
+    kids_ascend = form.kids_ascend;
     first-is = form.first-is;
   }
   made-formed (Foster q o d) p x t form =
@@ -163,15 +162,15 @@ module _ {K V : Type 0} (rank : K → ℕ) (top : ℕ) (least : K) (ranked : Ran
       (λ _. record {
         spans = n.below-is;
         foster-below = form.foster-below;
-        pairs_ascend = from-ascends rank _ _ d x.pairs form.pairs-ascend;
-        kids_ascend = from-ascends rank _ _ d x.frame.kids form.kids-ascend;
-        first-is = λ l e. let c = n.entry l e in first-from rank ranked.one d c.0 _ _ x.frame.kids form.kids-ascend c.1;
+        pairs_ascend = from-ascends rank _ _ d x.pairs form.pairs_ascend;
+        kids_ascend = from-ascends rank _ _ d x.frame.kids form.kids_ascend;
+        first-is = λ l e. let c = n.entry l e in first-from rank ranked.one d c.0 _ _ x.frame.kids form.kids_ascend c.1;
       })
       (λ _. record {
         spans = n.above;
         foster-below = λ f e. let u : d ≡ f.0 = ap (λ w. elim w [ None ↦ d | Some z ↦ z.0 ]) e in omega (arith, ap rank u, n.below-is, upper-high x form);
-        pairs_ascend = upto-ascends rank _ _ d x.pairs form.pairs-ascend;
-        kids_ascend = upto-ascends rank _ _ d x.frame.kids form.kids-ascend;
+        pairs_ascend = upto-ascends rank _ _ d x.pairs form.pairs_ascend;
+        kids_ascend = upto-ascends rank _ _ d x.frame.kids form.kids_ascend;
         first-is = λ l e. first-upto rank x.frame.low d x.frame.kids (form.first-is l e) n.above;
       })
   made-formed (Adopt q o k c) p x t form = cond_both (eqb p o) (ceding-image (by rank) least k x) (gaining-image (by rank) least k c x) (Form rank top)

@@ -1,25 +1,22 @@
 -- A good world: what the way of a key over it comes to.
-use Rattle.std.proofs.Common.{◌≡◌, ℕ, zero, suc, ◌<◌, ◌≤◌, Bool, true, false, cond, eqb, ◌⊎◌, List, [], ◌∷◌, ◌++◌, Some, None, Option, sym, refl, ap, ◌∙◌, subst, subst₂, inl, inr, arith}
-use Prim.Native.Nat.{Ordering, compare}
-use mathlib.Core.Path.{fun_ext}
-use lib.Dec.{compare_is_eq}
+use Rattle.std.proofs.Common.{◌≡◌, ℕ, suc, ◌<◌, ◌≤◌, ◌⊎◌, List, [], ◌∷◌, ◌++◌, Some, None, Option, sym, refl, ap, ◌∙◌, subst, inl, inr, arith}
 use Rattle.tree.specs.Rows.{by}
-use Rattle.tree.specs.Tree.{Frame, Image, State, Ranking, Sound, Holds, edge, upper, frames, Way, Found}
-use Rattle.tree.specs.Log.{Change, Rec, Logged, run, start, tree, at, Linked, Chain, rebuild, verdict, LessSome, Built}
+use Rattle.tree.specs.Tree.{Image, Ranking, Holds, frames, Way}
+use Rattle.tree.specs.Log.{Logged, start, tree, at, Linked, rebuild, verdict, LessSome}
 use Rattle.tree.specs.Suits.{suits}
-use Rattle.tree.specs.Walk.{Fault, Fetched, Walked, Visit, visit, visits, or_failed, outcome, Honest, Went}
+use Rattle.tree.specs.Walk.{Walked, visit, visits, or_failed, outcome, Honest, Went}
 use Rattle.tree.specs.Walk.Fault.{Gone}
 use Rattle.tree.specs.Walk.Fetched.{Page, Failed}
 use Rattle.tree.specs.Walk.Walked.{Met, Stopped}
-use Rattle.tree.specs.Worlds.{World, Stored, passes, fetched_of, read, logged, fetch, goes_to, Fails, Harmed, ChainLost, OutOfReach, FirstLost, LostOnWay}
+use Rattle.tree.specs.Worlds.{World, Stored, passes, fetched_of, read, logged, fetch, goes_to, Fails, Harmed, OutOfReach, FirstLost, LostOnWay}
 use Rattle.ranks.specs.Lists.{In, All}
 use Rattle.tree.proofs.Walk.{way-walked, pages-born}
-use Rattle.tree.proofs.Way.{Ends, leaf_on_way}
+use Rattle.tree.proofs.Way.{leaf_on_way}
 use Rattle.tree.proofs.Chain.{chains_rebuild}
-use Rattle.tree.proofs.Unique.{way-one, leaf-one, chain-one, seen, Whole, Broken, seen-chain}
+use Rattle.tree.proofs.Unique.{way-one, leaf-one, chain-one, seen-chain}
 use Rattle.tree.proofs.Runs.{StandsWell}
 use Rattle.tree.proofs.Fit.{Roomy}
-use Rattle.std.proofs.lemmas.Bool.{cases_Bool, cases_eq, cases_lt, eq-eqb, ne_eqb}
+use Rattle.std.proofs.lemmas.Bool.{cases_Bool, eq-eqb, ne_eqb}
 
 module _ {K V : Type 0} (rank : K → ℕ) (top : ℕ) (least : K) (ranked : Ranking rank top least) (pair-cost : K × V → ℕ) (kid-cost : K × ℕ → ℕ)
     (kid_cheap : (k : K) (c : ℕ) → kid-cost (k, c) ≤ 23) where
@@ -151,7 +148,7 @@ module _ {K V : Type 0} (rank : K → ℕ) (top : ℕ) (least : K) (ranked : Ran
         ⊎ ((p : ℕ) × (n : ℕ) × (goes_to (by rank) least pair-cost kid-cost w k ≡ Stopped (Gone p n)) × FirstLost (by rank) least pair-cost kid-cost w k p n)
     way-ends k =
         let f = (went k).found in
-        let e = (went k).comes-to (suc s.born) (omega arith) in
+        let e = (went k).comes_to (suc s.born) (omega arith) in
         let born = pages-born rank top least ranked (tree s) ok.sound (fetch (by rank) least pair-cost kid-cost w) honest k f in
         let m = leaf_on_way rank top least ranked (tree s) ok.sound k in
         let i : m.leaf ≡ f.leaf = leaf-one (by rank) (frames (tree s)) k m.way f.way refl in
@@ -165,7 +162,7 @@ module _ {K V : Type 0} (rank : K → ℕ) (top : ℕ) (least : K) (ranked : Ran
             holds = subst (λ n. Holds rank top (s.page n).frame k) i m.holds;
             all-born = born;
             comes_to = e ∙ a.0;
-            none-lost = λ l. a.1 l.page l.position (subst (In l.page) (way-one (by rank) (frames (tree s)) k l.way f.way refl) l.on-it) l.lost;
+            none-lost = λ l. a.1 l.page l.position (subst (In l.page) (way-one (by rank) (frames (tree s)) k l.way f.way refl) l.on_it) l.lost;
           })
           | inr a ↦ let t = a.3 in inr (
             a.0,

@@ -1,10 +1,9 @@
-use Rattle.std.proofs.Common.{◌≡◌, ℕ, suc, ◌<◌, ◌≤◌, Bool, true, false, cond, ◌⊎◌, List, [], ◌∷◌, Some, None, Option, sym, refl, ap, ◌∙◌, subst, subst₂, inl, inr, arith}
-use Prim.Native.Nat.{compare}
+use Rattle.std.proofs.Common.{◌≡◌, ℕ, suc, ◌<◌, ◌≤◌, ◌⊎◌, Some, None, Option, sym, refl, ap, ◌∙◌, subst, inl, inr, arith}
 use mathlib.Core.Path.{fun_ext}
-use Rattle.tree.specs.Rows.{find, upto, from, set, without, floor, ceil, Ascends, by, is_less}
-use Rattle.tree.specs.Tree.{Frame, Image, State, Shape, Sound, Points, Ranking, upd, upper, upper_of, edge, Holds, kid, bound, frames, grow, risen, risen-image}
+use Rattle.tree.specs.Rows.{find, Ascends, by}
+use Rattle.tree.specs.Tree.{Frame, Image, State, Shape, Sound, Points, Ranking, upd, upper, edge, Holds, kid, bound, frames, grow, risen, risen-image}
 use Rattle.tree.proofs.Divide.{points_at}
-use Rattle.tree.proofs.Upd.{upd-here, upd_there, upd_cases, upd-keeps, upd-map, none-some}
+use Rattle.tree.proofs.Upd.{upd-here, upd_there, upd_cases, upd-map, none-some}
 
 module _ {K : Type 0} (rank : K → ℕ) (top : ℕ) (least : K) (ranked : Ranking rank top least) (born : ℕ) (frame : ℕ → Frame K)
     (shape : Shape rank top least born frame) where
@@ -140,7 +139,7 @@ module _ {K V : Type 0} (rank : K → ℕ) (top : ℕ) (least : K) (ranked : Ran
     shape = subst (Shape rank top least (suc s.born)) frames-after
         (grow-shape rank top least ranked s.born (frames s) sound.shape);
     pairs_ascend = each-image (λ z. Ascends rank (rank z.frame.low) z.pairs (edge rank top (upper z.frame)))
-        tt (sound.pairs-ascend 0 sound.shape.any) sound.pairs-ascend;
+        tt (sound.pairs_ascend 0 sound.shape.any) sound.pairs_ascend;
     leaves = each-image (λ z. (k : K) → z.frame.level ≡ 0 → Holds rank top z.frame k → find (by rank) k z.pairs ≡ s.stands k)
         (λ k e h. absurd (omega arith)) (sound.leaves 0 sound.shape.any) sound.leaves;
   }

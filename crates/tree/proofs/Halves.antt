@@ -1,9 +1,7 @@
-use Rattle.std.proofs.Common.{◌≡◌, ℕ, zero, suc, ◌+◌, ◌*◌, ◌<◌, ◌≤◌, Bool, true, false, cond, leb, ◌⊎◌, List, [], ◌∷◌, Some, None, Option, sym, refl, ap, ◌∙◌, subst, inl, inr, arith}
-use Prim.Native.Nat.{Ordering}
+use Rattle.std.proofs.Common.{◌≡◌, ℕ, suc, ◌+◌, ◌*◌, ◌<◌, ◌≤◌, true, cond, List, [], ◌∷◌, Some, sym, refl, ap, ◌∙◌, inl, inr, arith}
 use Rattle.tree.specs.Rows.{find, upto, from, Ascends, by}
-use Rattle.tree.specs.Halves.{total, some, divides-row, first_key, key-after, divider, Cheap, Divides}
+use Rattle.tree.specs.Halves.{total, some, divides-row, first_key, key-after, Cheap, Divides}
 use Rattle.tree.proofs.Rows.{upto-none}
-use Rattle.std.proofs.lemmas.Bool.Decides.{nat_tests}
 use Rattle.std.proofs.lemmas.Bool.{cases_lt, le-leb, lt-leb}
 
 module _ {K A : Type 0} (rank : K → ℕ) (cost : K × A → ℕ) where

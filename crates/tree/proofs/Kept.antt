@@ -1,11 +1,8 @@
-use Rattle.std.proofs.Common.{◌≡◌, ℕ, zero, suc, ◌<◌, ◌≤◌, Bool, true, false, cond, eqb, List, [], ◌∷◌, Some, None, Option, sym, refl, ap, ◌∙◌, subst, arith}
-use Prim.Native.Nat.{Ordering}
-use mathlib.Core.Path.{fun_ext}
-use Rattle.tree.specs.Rows.{by, Ascends}
-use Rattle.tree.specs.Tree.{Image, State, Sound, Shape, Points, Ranking, Holds, upd, upper, edge, kid, bound, put, remove, divide, adopt, grow, putting, removing, lower-image, upper-image, gaining-image, ceding-image, risen-image}
-use Rattle.tree.specs.Log.{Change, Rec, Source, source, source_of, make, made, blank, Logged, append, run, start, tree, May, Kept}
+use Rattle.std.proofs.Common.{◌≡◌, ℕ, suc, List, [], ◌∷◌, None, sym, refl, ap, ◌∙◌, subst, arith}
+use Rattle.tree.specs.Rows.{by}
+use Rattle.tree.specs.Tree.{State, Sound, Ranking, upd, put, remove, divide, grow, putting, removing, lower-image, upper-image, gaining-image, ceding-image, risen-image}
+use Rattle.tree.specs.Log.{Change, Rec, source_of, made, blank, Logged, append, run, start, tree, May, Kept}
 use Rattle.tree.specs.Log.Change.{Format, Put, Remove, Foster, Adopt, Grow}
-use Rattle.tree.specs.Log.Source.{Out, Fresh, Earlier}
 use Rattle.tree.proofs.Upd.{none-some}
 use Rattle.tree.proofs.Put.{put-stays, remove-stays}
 use Rattle.tree.proofs.Divide.{divide-stays}

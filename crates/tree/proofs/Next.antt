@@ -1,10 +1,8 @@
-use Rattle.std.proofs.Common.{◌≡◌, ℕ, zero, suc, ◌+◌, ◌-◌, ◌<◌, ◌≤◌, Bool, true, false, cond, ◌⊎◌, List, [], ◌∷◌, Some, None, Option, sym, refl, ap, ◌∙◌, subst, inl, inr, arith}
-use Prim.Native.Nat.{Ordering, compare}
-use mathlib.Core.Path.{fun_ext}
-use Rattle.tree.specs.Rows.{find, above, floor, ceil, Ascends, by, is_less}
-use Rattle.tree.specs.Tree.{Frame, Image, State, Shape, Sound, Ranking, upper, edge, Holds, frames, Way, Seek, IsLeastAbove}
+use Rattle.std.proofs.Common.{◌≡◌, ℕ, zero, suc, ◌-◌, ◌<◌, ◌≤◌, Some, None, Option, sym, refl, ap, ◌∙◌, inl, inr, arith}
+use Rattle.tree.specs.Rows.{find, above, by}
+use Rattle.tree.specs.Tree.{Image, State, Sound, Ranking, upper, edge, frames, Seek, IsLeastAbove}
 use Rattle.tree.specs.Tree.Seek.{hit, over, onto}
-use Rattle.tree.proofs.Rows.{First, above-some, above-none, less-true}
+use Rattle.tree.proofs.Rows.{above-some, above-none, less-true}
 use Rattle.tree.proofs.Way.{Ends, leaf_on_way}
 use Rattle.std.proofs.lemmas.Bool.{cases_lt}
 
@@ -35,7 +33,7 @@ module _ {K V : Type 0} (rank : K → ℕ) (top : ℕ) (least : K) (ranked : Ran
 
     found : (e : K × V) → above (by rank) k page.pairs ≡ Some e → Result j
     found e w =
-        let f = above-some rank k _ _ page.pairs e (sound.pairs-ascend x.leaf x.leaf-born) w in (
+        let f = above-some rank k _ _ page.pairs e (sound.pairs_ascend x.leaf x.leaf-born) w in (
           Some e,
           hit x.way w,
           (

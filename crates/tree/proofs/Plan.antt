@@ -1,16 +1,15 @@
-use Rattle.std.proofs.Common.{◌≡◌, ℕ, zero, suc, ◌+◌, ◌*◌, ◌<◌, ◌≤◌, Bool, true, false, cond, ltb, leb, ◌⊎◌, List, [], ◌∷◌, Some, None, Option, sym, refl, ap, ◌∙◌, subst, inl, inr, arith}
-use Prim.Native.Nat.{Ordering}
-use Rattle.tree.specs.Rows.{set, find, upto, from, Ascends, by, is_less}
-use Rattle.tree.specs.Tree.{Frame, Image, State, Ranking, Sound, Shape, Holds, edge, upper, kid, bound, frames, divide, lower-image, upper-image, upd, MayPut, MayDivide, MayAdopt}
-use Rattle.tree.specs.Log.{Change, Rec, Logged, append, tree, start, run, May, Kept, Linked, source}
-use Rattle.tree.specs.Log.Change.{Format, Put, Remove, Foster, Adopt, Grow}
-use Rattle.tree.specs.Halves.{total, divider, Cheap, Divides}
-use Rattle.tree.specs.Plan.{linked, changed, changes, divided-put, planned-put, divided-branch, step-at, step-or, steps-below, rootwards, planned_tend, MayAll, Priced}
+use Rattle.std.proofs.Common.{◌≡◌, ℕ, zero, suc, ◌+◌, ◌<◌, ◌≤◌, cond, ltb, leb, List, [], ◌∷◌, Some, None, Option, sym, refl, ap, ◌∙◌, subst, arith}
+use Rattle.tree.specs.Rows.{set, by, is_less}
+use Rattle.tree.specs.Tree.{Image, Ranking, Sound, Holds, edge, upper, kid, lower-image, upper-image, upd, MayPut, MayDivide}
+use Rattle.tree.specs.Log.{Logged, tree}
+use Rattle.tree.specs.Log.Change.{Put, Foster, Grow}
+use Rattle.tree.specs.Halves.{total, divider, Divides}
+use Rattle.tree.specs.Plan.{changed, divided-put, planned-put, divided-branch, step-at, step-or, steps-below, rootwards, planned_tend, MayAll, Priced}
 use Rattle.tree.proofs.Rows.{less-true, less_false, floor-le, ceil-above}
 use Rattle.tree.proofs.Halves.{divides}
-use Rattle.tree.proofs.Upd.{upd-here, upd_there, upd_cases}
-use Rattle.tree.proofs.Kept.{stays, pages_divide}
-use Rattle.std.proofs.lemmas.Bool.{cases_lt, cond_both, leb-true, leb-false}
+use Rattle.tree.proofs.Upd.{upd-here, upd_there}
+use Rattle.tree.proofs.Kept.{pages_divide}
+use Rattle.std.proofs.lemmas.Bool.{cond_both, leb-false}
 
 -- an entry added costs no more than its own cost more
 pub set-total : {K A : Type 0} (rank : K → ℕ) (cost : K × A → ℕ) (k : K) (a : A) (es : List (K × A))
@@ -66,7 +65,7 @@ module _ {K V : Type 0} (rank : K → ℕ) (top : ℕ) (least : K) (ranked : Ran
       (λ t.
       let u = leb-false (total pair-cost (set (by rank) k v (s.page p).pairs)) 436 t in
       let w = set-total rank pair-cost k v (s.page p).pairs in
-      let d = divides rank pair-cost 84 _ _ (s.page p).pairs (sound.pairs-ascend p b) (priced.pairs p) (omega arith) in
+      let d = divides rank pair-cost 84 _ _ (s.page p).pairs (sound.pairs_ascend p b) (priced.pairs p) (omega arith) in
       subst (λ o. MayAll rank top least s (divided-put (by rank) pair-cost kid-cost p s.born k v o)) (sym d.is)
       ((refl, may-divide-leaf p b e d), (part-put p b e k d.key h, tt)))
 

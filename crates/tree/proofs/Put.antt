@@ -1,10 +1,9 @@
-use Rattle.std.proofs.Common.{◌≡◌, ℕ, suc, ◌<◌, ◌≤◌, Bool, true, false, cond, eqb, ltb, leb, List, [], ◌∷◌, Some, None, Option, sym, refl, ◌∙◌, subst, arith}
+use Rattle.std.proofs.Common.{◌≡◌, ℕ, ◌<◌, eqb, Some, None, sym, refl, ◌∙◌, subst, arith}
 use mathlib.Core.Path.{fun_ext}
-use Rattle.tree.specs.Rows.{find, upto, from, set, without, floor, ceil, Ascends, by, is_less}
-use Rattle.tree.specs.Tree.{Frame, Image, State, Shape, Sound, upd, upper, edge, Holds, frames, put, remove, putting, removing, MayPut}
+use Rattle.tree.specs.Rows.{find, set, without, Ascends, by}
+use Rattle.tree.specs.Tree.{Image, State, Shape, Sound, upper, edge, Holds, put, remove, putting, removing, MayPut}
 use Rattle.tree.proofs.Rows.{find-set, find-set-other, set-ascends, find-without, find-without-other, without-ascends}
-use Rattle.tree.proofs.Upd.{upd-here, upd_there, upd_cases, upd-keeps}
-use Rattle.std.proofs.lemmas.Bool.Decides.{nat_tests}
+use Rattle.tree.proofs.Upd.{upd_cases, upd-keeps}
 use Rattle.std.proofs.lemmas.Bool.{cond_both, eqb-true, eqb-false}
 
 module _ {K V : Type 0} (rank : K → ℕ) (top : ℕ) (least : K) (s : State K V) (sound : Sound rank top least s)
@@ -20,8 +19,8 @@ module _ {K V : Type 0} (rank : K → ℕ) (top : ℕ) (least : K) (s : State K 
     shape = subst (Shape rank top least s.born) (fun_ext (λ q. sym (upd-keeps s.page p y (λ z. z.frame) refl q))) sound.shape;
     pairs_ascend = upd_cases s.page p y
         (λ q z. q < s.born → Ascends rank (rank z.frame.low) z.pairs (edge rank top (upper z.frame)))
-        (λ b. set-ascends rank _ _ k v (s.page p).pairs (sound.pairs-ascend p b) may.holds.0 may.holds.1)
-        (λ q n b. sound.pairs-ascend q b);
+        (λ b. set-ascends rank _ _ k v (s.page p).pairs (sound.pairs_ascend p b) may.holds.0 may.holds.1)
+        (λ q n b. sound.pairs_ascend q b);
     leaves = upd_cases s.page p y
         (λ q z. q < s.born → (j : K) → z.frame.level ≡ 0 → Holds rank top z.frame j → find (by rank) j z.pairs ≡ (put (by rank) least p k v s).stands j)
         (λ b j l h. cond_both (eqb (rank j) (rank k)) (Some v) (s.stands j) (λ w. find (by rank) j (set (by rank) k v (s.page p).pairs) ≡ w)
@@ -40,8 +39,8 @@ module _ {K V : Type 0} (rank : K → ℕ) (top : ℕ) (least : K) (s : State K 
     shape = subst (Shape rank top least s.born) (fun_ext (λ q. sym (upd-keeps s.page p y (λ z. z.frame) refl q))) sound.shape;
     pairs_ascend = upd_cases s.page p y
         (λ q z. q < s.born → Ascends rank (rank z.frame.low) z.pairs (edge rank top (upper z.frame)))
-        (λ b. without-ascends rank _ _ k (s.page p).pairs (sound.pairs-ascend p b))
-        (λ q n b. sound.pairs-ascend q b);
+        (λ b. without-ascends rank _ _ k (s.page p).pairs (sound.pairs_ascend p b))
+        (λ q n b. sound.pairs_ascend q b);
     leaves = upd_cases s.page p y
         (λ q z. q < s.born → (j : K) → z.frame.level ≡ 0 → Holds rank top z.frame j → find (by rank) j z.pairs ≡ (remove (by rank) least p k s).stands j)
         (λ b j l h. cond_both (eqb (rank j) (rank k)) None (s.stands j) (λ w. find (by rank) j (without (by rank) k (s.page p).pairs) ≡ w)

@@ -1,9 +1,9 @@
-use Rattle.std.proofs.Common.{◌≡◌, ℕ, suc, ◌<◌, ◌≤◌, Bool, true, false, cond, eqb, ltb, leb, ◌⊎◌, List, [], ◌∷◌, Some, None, Option, refl, subst, inl, inr, arith}
+use Rattle.std.proofs.Common.{◌≡◌, ℕ, suc, ◌<◌, ◌≤◌, true, false, eqb, leb, List, [], ◌∷◌, Some, None, Option, refl, subst, inl, inr, arith}
 use Prim.Native.Nat.{compare}
 use Rattle.tree.specs.Rows.{find, upto, from, set, without, above, floor, ceil, Ascends, by, is_less}
 use Rattle.tree.specs.Tree.{edge}
 use Rattle.std.proofs.lemmas.Bool.Decides.{nat_tests}
-use Rattle.std.proofs.lemmas.Bool.{cond_both, cases_lt, leb-true, leb-false, eqb-true, eqb-false}
+use Rattle.std.proofs.lemmas.Bool.{cond_both, cases_lt, leb-true, eqb-true, eqb-false}
 
 pub less-true : (a b : ℕ) → is_less (compare a b) ≡ true → a < b
 less-true a b t = grind arith

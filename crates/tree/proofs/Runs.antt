@@ -1,19 +1,18 @@
 -- What changes made one after another do: to a log, to the pages and to the keys that stand.
-use Rattle.std.proofs.Common.{◌≡◌, ℕ, zero, suc, ◌<◌, ◌≤◌, Bool, true, false, cond, eqb, ltb, leb, ◌⊎◌, List, [], ◌∷◌, ◌++◌, Some, None, Option, sym, refl, ap, ◌∙◌, subst, inl, inr, arith}
-use Prim.Native.Nat.{Ordering, compare}
-use lib.Dec.{compare_is_eq}
-use Rattle.tree.specs.Rows.{find, above, by, is_less, set}
-use Rattle.tree.specs.Tree.{Frame, Image, State, Ranking, Sound, Holds, upper, kid, frames, Way, Found}
-use Rattle.tree.specs.Log.{Change, Rec, Source, source, touched, made, standing, Logged, append, run, start, tree, at, May, Linked}
+use Rattle.std.proofs.Common.{◌≡◌, ℕ, zero, suc, ◌<◌, ◌≤◌, Bool, true, false, cond, ltb, leb, ◌⊎◌, List, [], ◌∷◌, ◌++◌, Some, None, Option, sym, refl, ap, ◌∙◌, subst, inl, inr, arith}
+use Prim.Native.Nat.{Ordering}
+use Rattle.std.proofs.Math.Dec.{compare_is_eq}
+use Rattle.tree.specs.Rows.{by, set}
+use Rattle.tree.specs.Tree.{Image, Ranking, Sound, kid}
+use Rattle.tree.specs.Log.{Change, Rec, Source, source, touched, made, standing, Logged, append, run, tree, May, Linked}
 use Rattle.tree.specs.Log.Change.{Format, Put, Remove, Foster, Adopt, Grow}
 use Rattle.tree.specs.Log.Source.{Out, Fresh, Earlier}
-use Rattle.tree.specs.Halves.{Cheap, total, divider}
-use Rattle.tree.specs.Plan.{linked, changed, changes, planned-put, divided-put, planned_tend, divided-branch, step-at, step-or, steps-below, rootwards, MayAll, Priced}
+use Rattle.tree.specs.Halves.{total, divider}
+use Rattle.tree.specs.Plan.{linked, changed, changes, planned-put, divided-put, planned_tend, divided-branch, step-or, steps-below, rootwards, MayAll}
 use Rattle.tree.specs.Plan.{all-linked, Begins}
 use Rattle.tree.specs.Plan.Begins.{nothing, more}
 use Rattle.tree.proofs.Kept.{stays}
 use Rattle.std.proofs.lemmas.Bool.{cond_both}
-use Rattle.std.proofs.lemmas.Bool.Decides.{nat_tests}
 
 module _ {K V : Type 0} (cmp : K → K → Ordering) (least : K) where
   pub run-append : (s : Logged K V) (rs qs : List (Rec K V)) → run cmp least s (rs ++ qs) ≡ run cmp least (run cmp least s rs) qs

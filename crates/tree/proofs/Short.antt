@@ -1,18 +1,17 @@
 -- A way over well-formed pages meets no page twice, whatever the log.
-use Rattle.std.proofs.Common.{◌≡◌, ℕ, zero, suc, ◌+◌, ◌-◌, ◌<◌, ◌≤◌, Bool, true, false, cond, eqb, ltb, ◌⊎◌, List, [], ◌∷◌, length, Some, None, Option, sym, refl, ap, ◌∙◌, subst, inl, inr, arith}
-use Prim.Native.Nat.{Ordering, compare}
-use lib.Dec.{is_le, compare_is_eq}
-use Rattle.tree.specs.Rows.{floor, Ascends, by}
+use Rattle.std.proofs.Common.{◌≡◌, ℕ, zero, suc, ◌+◌, ◌-◌, ◌<◌, ◌≤◌, Bool, true, false, cond, ltb, Some, None, Option, sym, refl, ap, ◌∙◌, subst, inl, inr, arith}
+use Rattle.std.proofs.Math.Dec.{is_le}
+use Rattle.tree.specs.Rows.{by}
 use Rattle.tree.specs.Tree.{Frame, Image, Ranking, kid, bound}
-use Rattle.tree.specs.Walk.{Fault, Fetched, Due, Walked, same_bound, same_level, check, entered, onward_due, walk_on, walk_checked, walk_fetched, walk, onto, visit, due-root, Formed}
+use Rattle.tree.specs.Walk.{Fetched, Due, check, entered, onward_due, walk_on, walk_checked, walk_fetched, walk, onto, visit, due-root, Formed}
 use Rattle.tree.specs.Walk.Fault.{Wrong}
 use Rattle.tree.specs.Walk.Fetched.{Page, Failed}
-use Rattle.tree.specs.Walk.Walked.{Met, Stopped}
+use Rattle.tree.specs.Walk.Walked.{Stopped}
 use Rattle.tree.proofs.Rows.{floor_ge}
-use Rattle.ranks.proofs.Tally.{In, All, tally, tally-lt, tally_most}
+use Rattle.ranks.proofs.Tally.{tally, tally-lt, tally_most}
 use Rattle.tree.proofs.Walk.{below, length-below, in-below, all-below}
 use Rattle.tree.proofs.Upd.{none-some}
-use Rattle.std.proofs.lemmas.Bool.{lt-ltb, le-ltb, ltb-true, ltb-false, cases_lt, cases_Bool}
+use Rattle.std.proofs.lemmas.Bool.{lt-ltb, le-ltb, ltb-true, cases_Bool}
 
 module _ {K V : Type 0} (rank : K → ℕ) (top : ℕ) (least : K) (ranked : Ranking rank top least) (fetch : ℕ → Fetched K V) (born : ℕ)
     (formed : (p : ℕ) (x : Image K V) → fetch p ≡ Page x → Formed rank top x) (k : K) where

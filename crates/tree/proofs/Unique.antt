@@ -1,12 +1,11 @@
 -- A key's way and a page's chain are one, and what a chain's lost records come to.
-use Rattle.std.proofs.Common.{◌≡◌, ℕ, zero, suc, ◌<◌, ◌≤◌, Bool, true, false, cond, ◌⊎◌, List, [], ◌∷◌, ◌++◌, Some, None, Option, sym, refl, ap, ◌∙◌, subst, subst₂, inl, inr, arith}
+use Rattle.std.proofs.Common.{◌≡◌, ℕ, Bool, true, false, cond, ◌⊎◌, List, [], ◌∷◌, ◌++◌, Some, None, Option, sym, refl, ap, ◌∙◌, inl, inr, arith}
 use Prim.Native.Nat.{Ordering}
 use Rattle.tree.specs.Tree.{Frame, Image, onward, Way}
 use Rattle.tree.specs.Tree.Way.{ends, goes}
-use Rattle.tree.specs.Log.{Change, Rec, Source, source, make, blank, at, Chain, Built, or_lost, verdict}
-use Rattle.tree.specs.Log.Source.{Out, Fresh, Earlier}
+use Rattle.tree.specs.Log.{Change, Rec, source, Chain, or_lost, verdict}
 use Rattle.tree.specs.Log.Chain.{first, later}
-use Rattle.tree.specs.Log.Built.{Done, Lost, Misfit}
+use Rattle.tree.specs.Log.Built.{Done, Lost}
 use Rattle.ranks.specs.Lists.{In, All}
 use Rattle.tree.proofs.Upd.{none-some}
 use Rattle.std.proofs.lemmas.Bool.{cases_Bool}

@@ -1,19 +1,15 @@
-use Rattle.std.proofs.Common.{◌≡◌, ℕ, zero, suc, ◌+◌, ◌-◌, ◌<◌, ◌≤◌, Bool, true, false, cond, eqb, ltb, ◌⊎◌, List, [], ◌∷◌, length, Some, None, Option, sym, refl, ap, ◌∙◌, subst, inl, inr, arith}
-use Prim.Native.Nat.{Ordering, compare}
-use mathlib.Core.Path.{fun_ext}
-use lib.Dec.{is_le, compare_is_eq}
-use Rattle.tree.specs.Rows.{find, floor, ceil, Ascends, by}
-use Rattle.tree.specs.Tree.{Frame, Image, State, Shape, Sound, Points, Ranking, upper, upper_of, edge, Holds, kid, bound, frames, onward, onward_of, Way, Found}
+use Rattle.std.proofs.Common.{◌≡◌, ℕ, zero, suc, ◌+◌, ◌-◌, ◌<◌, ◌≤◌, true, ltb, List, [], ◌∷◌, length, Some, None, Option, sym, refl, ap, ◌∙◌, subst, inl, inr, arith}
+use Rattle.tree.specs.Rows.{by}
+use Rattle.tree.specs.Tree.{Frame, State, Shape, Sound, Points, Ranking, upper, edge, Holds, kid, bound, frames, onward, Way, Found}
 use Rattle.tree.specs.Tree.Way.{ends, goes}
-use Rattle.tree.specs.Walk.{Fault, Fetched, Due, Walked, same_bound, same_level, check, entered, onward_due, walk_on, walk_checked, walk_fetched, walk, or_failed, outcome, Visit, visit, visits, onto, due-root, Honest, Went}
+use Rattle.tree.specs.Walk.{Fetched, Due, same_bound, check, onward_due, walk, or_failed, outcome, Visit, visit, visits, onto, due-root, Honest, Went}
 use Rattle.tree.specs.Walk.Fetched.{Page, Failed}
-use Rattle.tree.specs.Walk.Walked.{Met, Stopped}
+use Rattle.tree.specs.Walk.Walked.{Met}
 use Rattle.tree.proofs.Rows.{floor-le, floor_ge, ceil-above}
 use Rattle.tree.proofs.Way.{key-found}
 use Rattle.ranks.proofs.Tally.{In, All, tally, tally-lt, tally_most}
 use Rattle.tree.proofs.Upd.{none-some}
-use Rattle.std.proofs.lemmas.Bool.{leb-true, leb-false, cases_lt, cases_eq, lt-ltb, le-ltb, ltb-true}
-use Rattle.std.proofs.lemmas.Bool.Decides.{nat_tests}
+use Rattle.std.proofs.lemmas.Bool.{cases_lt, cases_eq, lt-ltb, le-ltb, ltb-true}
 
 same-bound : {K : Type 0} (rank : K → ℕ) (u : Option K) → same_bound (by rank) u u ≡ true
 same-bound rank None = refl

@@ -1,12 +1,9 @@
-use Rattle.std.proofs.Common.{◌≡◌, ℕ, zero, suc, ◌+◌, ◌-◌, ◌<◌, ◌≤◌, Bool, true, false, cond, ◌⊎◌, List, [], ◌∷◌, Some, None, Option, sym, refl, ap, ◌∙◌, subst, inl, inr, arith}
-use Prim.Native.Nat.{Ordering}
-use mathlib.Core.Path.{fun_ext}
-use lib.Dec.{is_le}
-use Rattle.tree.specs.Rows.{find, floor, ceil, Ascends, by}
-use Rattle.tree.specs.Tree.{Frame, Image, State, Shape, Sound, Points, Ranking, upper, upper_of, edge, Holds, kid, bound, frames, onward, onward_of, Way, Found}
+use Rattle.std.proofs.Common.{◌≡◌, ℕ, zero, suc, ◌+◌, ◌-◌, ◌<◌, ◌≤◌, List, [], ◌∷◌, Some, None, Option, refl, ap, inl, inr, arith}
+use Rattle.tree.specs.Rows.{ceil, by}
+use Rattle.tree.specs.Tree.{Frame, State, Shape, Sound, Ranking, upper, edge, Holds, kid, frames, onward, Way, Found}
 use Rattle.tree.specs.Tree.Way.{ends, goes}
 use Rattle.tree.proofs.Rows.{floor-le, floor_ge}
-use Rattle.std.proofs.lemmas.Bool.{leb-true, leb-false, cases_lt}
+use Rattle.std.proofs.lemmas.Bool.{cases_lt}
 
 -- the first entry above a key bounds it
 ceil-above : {K A : Type 0} (rank : K → ℕ) (top : ℕ) (k : K) (u : Option K) (es : List (K × A)) → rank k < edge rank top u

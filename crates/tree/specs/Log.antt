@@ -1,10 +1,9 @@
 -- A log's records, the pages that they make one after another, and a page made again from its chain.
-use Rattle.std.specs.Prelude.{◌≡◌, ℕ, zero, suc, ◌<◌, ◌≤◌, Bool, true, false, cond, ◌⊎◌, List, [], ◌∷◌, Some, None, Option, ◌==◌, nat_lt}
+use Rattle.std.specs.Prelude.{◌≡◌, ℕ, zero, suc, ◌<◌, Bool, true, cond, ◌⊎◌, List, [], ◌∷◌, Some, None, Option, ◌==◌, nat_lt}
 use Prim.Native.Nat.{Ordering}
-use Rattle.std.proofs.Common.{inl, inr}
 use Rattle.std.proofs.Math.Dec.{compare_is_eq}
 use Rattle.tree.specs.Rows.{by}
-use Rattle.tree.specs.Tree.{Frame, Image, State, Ranking, Sound, Key, MayPut, MayDivide, MayAdopt, putting, removing, lower-image, upper-image, gaining-image, ceding-image, risen-image}
+use Rattle.tree.specs.Tree.{Image, State, Ranking, Sound, Key, MayPut, MayDivide, MayAdopt, putting, removing, lower-image, upper-image, gaining-image, ceding-image, risen-image}
 
 -- what a record says, but for the previous positions of its pages
 pub data Change (K V : Type 0) : Type 0 where

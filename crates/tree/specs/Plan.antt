@@ -1,9 +1,9 @@
 -- What a call appends: the changes that a put, a remove and a tend plan, in their order.
-use Rattle.std.specs.Prelude.{◌≡◌, ℕ, zero, suc, ◌+◌, ◌*◌, ◌<◌, ◌≤◌, Bool, true, false, cond, List, [], ◌∷◌, Some, None, Option, nat_le, nat_lt}
+use Rattle.std.specs.Prelude.{◌≡◌, ℕ, zero, suc, ◌<◌, ◌≤◌, cond, List, [], ◌∷◌, Some, None, Option, nat_le, nat_lt}
 use Prim.Native.Nat.{Ordering}
-use Rattle.tree.specs.Rows.{set, find, upto, from, Ascends, by, is_less}
-use Rattle.tree.specs.Tree.{Frame, Image, State, Ranking, Sound, Key, Holds, kid, frames}
-use Rattle.tree.specs.Log.{Change, Rec, Logged, append, tree, start, run, May, Kept, Linked, source}
+use Rattle.tree.specs.Rows.{set, by, is_less}
+use Rattle.tree.specs.Tree.{Ranking, Sound, Key, Holds, kid}
+use Rattle.tree.specs.Log.{Change, Rec, Logged, append, tree, May}
 use Rattle.tree.specs.Log.Change.{Format, Put, Remove, Foster, Adopt, Grow}
 use Rattle.tree.specs.Halves.{total, divider, Cheap}
 

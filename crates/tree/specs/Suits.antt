@@ -5,7 +5,7 @@ use Rattle.std.proofs.Math.Dec.{is_le, compare_is_eq}
 use Rattle.tree.specs.Rows.{set, find, is_less, by, Ascends}
 use Rattle.tree.specs.Tree.{Frame, Image, Ranking, Key, edge, upper}
 use Rattle.tree.specs.Halves.{total, some, divides-row}
-use Rattle.tree.specs.Log.{Change, Rec, Built, rebuild}
+use Rattle.tree.specs.Log.{Change, Rec, rebuild}
 use Rattle.tree.specs.Log.Change.{Format, Put, Remove, Foster, Adopt, Grow}
 use Rattle.tree.specs.Log.Built.{Done}
 

@@ -1,5 +1,5 @@
 -- The tree as an abstract state: pages, their fences and entries, and the keys that stand. A key is anything that has a rank.
-use Rattle.std.specs.Prelude.{◌≡◌, ℕ, zero, suc, ◌<◌, ◌≤◌, Bool, true, false, cond, List, [], ◌∷◌, Some, None, Option, ◌==◌, ◌≢◌}
+use Rattle.std.specs.Prelude.{◌≡◌, ℕ, zero, suc, ◌<◌, ◌≤◌, true, cond, List, [], ◌∷◌, Some, None, Option, ◌==◌, ◌≢◌}
 use Prim.Native.Nat.{Ordering}
 use Rattle.std.proofs.Math.Dec.{compare_is_eq, is_le}
 pub use Rattle.ranks.specs.Ranks.{Ranking, Key}

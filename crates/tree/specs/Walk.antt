@@ -2,8 +2,8 @@
 use Rattle.std.specs.Prelude.{◌≡◌, ℕ, zero, suc, ◌<◌, ◌≤◌, Bool, true, false, cond, ◌⊎◌, List, [], ◌∷◌, Some, None, Option, ◌==◌, nat_lt}
 use Prim.Native.Nat.{Ordering}
 use Rattle.std.proofs.Math.Dec.{compare_is_eq, is_le}
-use Rattle.tree.specs.Rows.{find, by, Ascends}
-use Rattle.tree.specs.Tree.{Frame, Image, State, Ranking, Sound, Key, edge, upper, kid, bound, frames, Way, Found}
+use Rattle.tree.specs.Rows.{by, Ascends}
+use Rattle.tree.specs.Tree.{Frame, Image, State, Ranking, Sound, Key, edge, upper, kid, bound, Found}
 
 -- what stops a way: a lost record of a page's chain, one that misfits, or a page that is not what pointed to it says
 pub data Fault : Type 0 where

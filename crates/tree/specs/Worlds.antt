@@ -1,11 +1,11 @@
 -- What the device and the log of a store mean: images of pages, and changes. A page that fails its checks is made again from its chain.
-use Rattle.std.specs.Prelude.{◌≡◌, ℕ, zero, suc, ◌<◌, ◌≤◌, Bool, true, false, cond, ◌⊎◌, List, [], ◌∷◌, ◌++◌, Some, None, Option, ◌==◌}
+use Rattle.std.specs.Prelude.{◌≡◌, ℕ, suc, ◌≤◌, Bool, true, false, cond, List, ◌∷◌, ◌++◌, Some, None, Option, ◌==◌}
 use Prim.Native.Nat.{Ordering}
 use Rattle.ranks.specs.Lists.{In, All}
-use Rattle.tree.specs.Tree.{Frame, Image, frames, Way}
-use Rattle.tree.specs.Log.{Change, Rec, Logged, run, start, tree, at, Built, rebuild, Chain}
+use Rattle.tree.specs.Tree.{Image, frames, Way}
+use Rattle.tree.specs.Log.{Rec, Logged, run, start, tree, at, Built, rebuild, Chain}
 use Rattle.tree.specs.Log.Built.{Done, Lost, Misfit}
-use Rattle.tree.specs.Walk.{Fault, Fetched, Walked, walk, due-root}
+use Rattle.tree.specs.Walk.{Fetched, Walked, walk, due-root}
 use Rattle.tree.specs.Walk.Fault.{Gone, Ill}
 use Rattle.tree.specs.Walk.Fetched.{Page, Failed}
 use Rattle.tree.specs.Suits.{suits}

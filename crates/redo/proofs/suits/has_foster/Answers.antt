@@ -1,4 +1,4 @@
-use Rattle.std.proofs.Common.{◌≡◌, Bool, ◌&&◌, eqb, sym, ap, ◌∙◌, rules}
+use Rattle.std.proofs.Common.{Bool, ◌&&◌, eqb, sym, ap, ◌∙◌, rules}
 use Rattle.field.specs.Held.{key_of}
 use Rattle.page.specs.Image.{parse_page}
 use Rattle.edits.specs.Suits.{fosters}

@@ -1,4 +1,4 @@
-use Rattle.std.proofs.Common.{◌≡◌, ℕ, ◌≤◌, Bool, List, length, sym, ap, ◌∙◌, subst}
+use Rattle.std.proofs.Common.{ℕ, ◌≤◌, List, length, sym, ap, ◌∙◌, subst}
 use Rattle.page.specs.Image.{parse_page}
 use Rattle.page.proofs.Parsed.{form_of}
 use Rattle.page.proofs.Rises.{ascending}
