@@ -17,8 +17,8 @@ loop-position-preserved g c =
     let d = g.D.PageDevice.disk c.args.device.now in
     let n = c.loop-position.position in
     let is = c.record_at.ensures.value ∙ ap (λ (e : Disk). looked e n) c.loop-position.invariant.0 in
-    let gone = look_fails d n c.record_at.result c.requires c.loop-position-test.true c.loop-position.invariant.1 is c.in_default.not-Record in
-    (c.record_at.ensures.same ∙ c.loop-position.invariant.0, omega arith, beyond-down (page_slots d) n c.loop-position-test.true gone c.loop-position.invariant.2)
+    let gone = look_fails d n c.record_at.result c.requires (omega arith) c.loop-position.invariant.1 is c.in_default.not-Record in
+    (c.record_at.ensures.same ∙ c.loop-position.invariant.0, omega arith, beyond-down (page_slots d) n (omega arith) gone c.loop-position.invariant.2)
 
 pub returns-in-Record : goal.returns-in-Record
 returns-in-Record g c =
@@ -26,6 +26,6 @@ returns-in-Record g c =
     let n = c.loop-position.position in
     let is = c.in-Record.ensures.value ∙ ap (λ (e : Disk). looked e n) c.loop-position.invariant.0 in
     record {
-      value = last-at (page_slots d) n _ (look_finds d n _ c.requires c.loop-position-test.true c.loop-position.invariant.1 is) c.loop-position.invariant.2;
+      value = last-at (page_slots d) n _ (look_finds d n _ c.requires (omega arith) c.loop-position.invariant.1 is) c.loop-position.invariant.2;
       same = c.record_at.ensures.same ∙ c.loop-position.invariant.0;
     }

@@ -15,14 +15,14 @@ pub loop-position-preserved : goal.loop-position-preserved
 loop-position-preserved c =
     let bs = c.args.memory.now in
     let n = c.loop-position.position in
-    let gone = slot_fails bs _ n c.loop-position-test.true c.loop-position.invariant.0 c.slot.ensures.value c.if-passes.ensures in
-    (omega arith, beyond-down (memory_slots bs) n c.loop-position-test.true gone c.loop-position.invariant.1)
+    let gone = slot_fails bs _ n (omega arith) c.loop-position.invariant.0 c.slot.ensures.value c.if-passes.ensures in
+    (omega arith, beyond-down (memory_slots bs) n (omega arith) gone c.loop-position.invariant.1)
 
 pub returns-then-passes : goal.returns-then-passes
 returns-then-passes c =
     let bs = c.args.memory.now in
     let n = c.loop-position.position in
-    last-at (memory_slots bs) n _ (slot-passes bs _ n c.loop-position-test.true c.loop-position.invariant.0 c.slot.ensures.value c.if-passes.ensures) c.loop-position.invariant.1
+    last-at (memory_slots bs) n _ (slot-passes bs _ n (omega arith) c.loop-position.invariant.0 c.slot.ensures.value c.if-passes.ensures) c.loop-position.invariant.1
 
 pub returns-after-loop-position : goal.returns-after-loop-position
 returns-after-loop-position c = last_none (memory_slots c.args.memory.now) c.loop-position.position (omega arith) c.loop-position.invariant.1
