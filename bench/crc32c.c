@@ -5,7 +5,7 @@
 #include <string.h>
 #include <time.h>
 
-// the proved code, from the static library of the crate `seal`
+// the proved code, from the static library of the crate `seal_c`
 uint32_t seal_crc32c(const uint8_t *bytes, size_t length);
 
 static uint32_t table[8][256];

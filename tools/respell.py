@@ -20,7 +20,6 @@ GIVEN = {
     "open-status": "open_status_is",
     "sixth-key": "sixth_key_is",
     "isLt": "is_less",
-    "isLe": "is_at_most",
     "None-is": "none_is",
     "keyRoom": "key_room",
     "isFull": "is_full",
