@@ -21,6 +21,12 @@ GIVEN = {
     "sixth-key": "sixth_key_is",
     "isLt": "is_less",
     "None-is": "none_is",
+    "divided-put": "put_divided",
+    "step-or": "step_else",
+    "steps-below": "steps_under",
+    "none-lost": "none_is_lost",
+    "pair-cost": "pair_cost",
+    "kid-cost": "kid_cost",
     "keyRoom": "key_room",
     "isFull": "is_full",
     "isBound": "is_bound",
@@ -54,13 +60,19 @@ def own(p):
 
 
 def declared():
-    """Each name declared in specs/ and proofs/, and whether it is a type or a fact."""
-    kinds = {}
+    """Each name declared in specs/ and proofs/, and whether it is a type or a fact; and the words: definitions, fields and constructors."""
+    kinds, words = {}, set()
     for p in files(".antt"):
         if not own(p):
             continue
         lines = read(p).split("\n")
+        block = None
         for i, line in enumerate(lines):
+            depth = len(line) - len(line.lstrip())
+            if re.match(r"\s*(pub )?(record|data) ", line):
+                block = depth
+            elif line.strip() and block is not None and depth <= block and not line.lstrip().startswith("--"):
+                block = None
             if line.lstrip().startswith(("--", "use ", "module ", "let ", "rw ", "unfolding ")):
                 continue
             m = DECLARED.match(line)
@@ -77,7 +89,9 @@ def declared():
             fact = bool(re.search(r"(?:→|: ?|:)\s*Type \d+( where)?\s*$", text))
             for n in names:
                 kinds[n] = kinds.get(n, False) or fact
-    return kinds
+                if not fact and (re.match(r"\s*(pub )?(abbrev|unfoldable) ", line) or block is not None and depth > block):
+                    words.add(n)
+    return kinds, words
 
 
 def humps(n):
@@ -104,7 +118,7 @@ def dashes(n, names):
 
 
 def spellings():
-    kinds = declared()
+    kinds, plain = declared()
     words = {snake(n) for n, fact in kinds.items() if "-" not in n} | KNOWN | {upper(n) for n, fact in kinds.items() if fact}
     new = {}
     for n, fact in kinds.items():
@@ -112,6 +126,8 @@ def spellings():
             s = GIVEN[n]
         elif fact and ("-" in n or not n[:1].isupper()):
             s = upper(n)
+        elif "-" in n and n in plain:
+            s = snake(n.replace("-", "_"))
         elif "-" in n:
             s = dashes("-".join(snake(p) if not p[:1].isupper() else p for p in n.split("-")), words)
         elif n[:1].isupper():
@@ -120,7 +136,7 @@ def spellings():
             s = snake(n)
         if s != n:
             new[n] = s
-    return kinds, {a: b for a, b in (GIVEN | new).items() if a not in LEFT}
+    return kinds, plain, {a: b for a, b in (GIVEN | new).items() if a not in LEFT}
 
 
 def crates():
@@ -143,14 +159,14 @@ def crates():
             f.write(re.sub(rf"(?m)^((?!#).*)$", lambda m: re.sub(rf"(?<![\w]){a}(?![\w])", b, m[0]), t))
 
 
-def turned(text, new, rt, mine):
+def turned(text, new, rt, mine, plain):
     """The text with the new spellings; dashed names only in code, and only where they are not a part of a path."""
 
     def one(m):
         t = m[0]
         before = text[m.start() - 1:m.start()]
         if t in new and t not in mine:
-            if "-" in t and before == "." and not t[:1].isupper():
+            if "-" in t and before == "." and not t[:1].isupper() and t not in plain:
                 return t
             return new[t]
         if "-" in t:
@@ -177,7 +193,7 @@ def turned(text, new, rt, mine):
 
 
 def main(argv):
-    kinds, new = spellings()
+    kinds, plain, new = spellings()
     back = {}
     for a, b in new.items():
         back.setdefault(b, []).append(a)
@@ -198,7 +214,7 @@ def main(argv):
                 print(f"meets: {os.path.relpath(p, ROOT)}: {a} -> {new[a]}")
         if "--dry" in argv:
             continue
-        t = turned(text, new, rt, mine)
+        t = turned(text, new, rt, mine, plain)
         if t != text:
             with open(p, "w", encoding="utf-8") as f:
                 f.write(t)

@@ -6,15 +6,15 @@ use Rattle.page.specs.Content.Entry.{leaf, branch}
 use Rattle.page_edit.specs.Edits as edit
 use Rattle.page_edit.specs.Edits.{placed, below, has, first_half, formatted, with_entries, lower_half, upper_half, after_adoption, grown_root, grown_child}
 use Rattle.tree.specs.Rows.{find, upto, from, set, without, Ascends}
-use Rattle.tree.specs.Tree.{Image, edge, upper, putting, removing, gaining-image, lower-image, upper-image, ceding-image}
-use Rattle.tree.specs.Halves.{some, total, divider, divides-row}
+use Rattle.tree.specs.Tree.{Image, edge, upper, putting, removing, gaining_image, lower_image, upper_image, ceding_image}
+use Rattle.tree.specs.Halves.{some, total, divider, divides_row}
 use Rattle.tree.specs.Suits.{Form}
 use Rattle.images.specs.Keys.{Key, Value, empty_key, keyed, pair_cost, kid_cost}
 use Rattle.images.specs.Images.{bound_of, foster_of, leaves, branches, entries_of, content_of}
 use Rattle.images.specs.Laws.{Ranked}
 use Rattle.edits.specs.Suits.{divides}
 use Rattle.edits.specs.Agree.{PutIsTheTrees, RemoveIsTheTrees, AdoptingIsTheTrees, HasIsTheTrees, HalvesAreTheTrees, AdoptionIsTheTrees, GrowthIsTheTrees, FormatIsTheTrees, CostsAreTheTrees, Halved, DividersAreTheTrees}
-use Rattle.edits.proofs.Entries.{leaf_of, branch_of, leaves_are, branches_are, placed-is, without_is, below-is, from_is, has-is, divides-is, costs_are, divider-is, After}
+use Rattle.edits.proofs.Entries.{leaf_of, branch_of, leaves_are, branches_are, placed-is, without_is, below_is, from_is, has-is, divides-is, costs_are, divider-is, After}
 
 leaf-key : (e : Key × Value) → entry_key (leaf_of e) ≡ e.0.bytes
 unfolding entry_key leaf_of
@@ -50,16 +50,16 @@ module _ (says : Says) (r : Ranked says) where
 
   -- either kind of page, below a key and from it on
   lower-entries : (d : Key) (q : ℕ) (x : Image Key Value) → Form r.rank r.top x → (l : ℕ)
-      → entries_of l (lower-image (keyed says) empty_key d q x) ≡ below says d.bytes (entries_of l x)
+      → entries_of l (lower_image (keyed says) empty_key d q x) ≡ below says d.bytes (entries_of l x)
   lower-entries d q x h zero =
       subst (λ f. f (upto (keyed says) d x.pairs) ≡ below says d.bytes (f x.pairs)) leaves_are
-      (below-is leaf_of leaf-key says r d (r.rank x.frame.low) (edge r.rank r.top (upper x.frame)) x.pairs h.pairs_ascend)
+      (below_is leaf_of leaf-key says r d (r.rank x.frame.low) (edge r.rank r.top (upper x.frame)) x.pairs h.pairs_ascend)
   lower-entries d q x h (suc l) =
       subst (λ f. f (upto (keyed says) d x.frame.kids) ≡ below says d.bytes (f x.frame.kids)) branches_are
-      (below-is branch_of branch-key says r d (r.rank x.frame.low) (edge r.rank r.top (upper x.frame)) x.frame.kids h.kids_ascend)
+      (below_is branch_of branch-key says r d (r.rank x.frame.low) (edge r.rank r.top (upper x.frame)) x.frame.kids h.kids_ascend)
 
   upper-entries : (d : Key) (x : Image Key Value) → Form r.rank r.top x → (l : ℕ)
-      → entries_of l (upper-image (keyed says) empty_key d x) ≡ edit.from says d.bytes (entries_of l x)
+      → entries_of l (upper_image (keyed says) empty_key d x) ≡ edit.from says d.bytes (entries_of l x)
   upper-entries d x h zero =
       subst (λ f. f (from (keyed says) d x.pairs) ≡ edit.from says d.bytes (f x.pairs)) leaves_are
       (from_is leaf_of leaf-key says r d (r.rank x.frame.low) (edge r.rank r.top (upper x.frame)) x.pairs h.pairs_ascend)
@@ -73,13 +73,13 @@ leaves_have says k es = subst (λ f. has says k.bytes (f es) ≡ some (find (key
 pub branches_have : (says : Says) (k : Key) (es : List (Key × ℕ)) → has says k.bytes (branches es) ≡ some (find (keyed says) k es)
 branches_have says k es = subst (λ f. has says k.bytes (f es) ≡ some (find (keyed says) k es)) branches_are (has-is branch_of branch-key says k es)
 
-pub leaves-divide : (says : Says) (k : Key) (es : List (Key × Value)) → divides says k.bytes (leaves es) ≡ divides-row (keyed says) k es
+pub leaves-divide : (says : Says) (k : Key) (es : List (Key × Value)) → divides says k.bytes (leaves es) ≡ divides_row (keyed says) k es
 leaves-divide says k es =
-    subst (λ f. divides says k.bytes (f es) ≡ divides-row (keyed says) k es) leaves_are (divides-is leaf_of leaf-key says k es)
+    subst (λ f. divides says k.bytes (f es) ≡ divides_row (keyed says) k es) leaves_are (divides-is leaf_of leaf-key says k es)
 
-pub branches-divide : (says : Says) (k : Key) (es : List (Key × ℕ)) → divides says k.bytes (branches es) ≡ divides-row (keyed says) k es
+pub branches-divide : (says : Says) (k : Key) (es : List (Key × ℕ)) → divides says k.bytes (branches es) ≡ divides_row (keyed says) k es
 branches-divide says k es =
-    subst (λ f. divides says k.bytes (f es) ≡ divides-row (keyed says) k es) branches_are (divides-is branch_of branch-key says k es)
+    subst (λ f. divides says k.bytes (f es) ≡ divides_row (keyed says) k es) branches_are (divides-is branch_of branch-key says k es)
 
 pub leaves-cost : (es : List (Key × Value)) → costs (leaves es) ≡ total pair_cost es
 leaves-cost es = subst (λ f. costs (f es) ≡ total pair_cost es) leaves_are (costs_are leaf_of leaf-key pair_cost leaf-cost es)
@@ -139,7 +139,7 @@ adopting_is_the_trees says r p m n k c x l e = λ i. record {
   entries = go x.frame.level e i;
 }
   where
-    go : (j : ℕ) → j ≡ suc l → entries_of j (gaining-image (keyed says) empty_key k c x) ≡ placed says (branch k.bytes c) (entries_of j x)
+    go : (j : ℕ) → j ≡ suc l → entries_of j (gaining_image (keyed says) empty_key k c x) ≡ placed says (branch k.bytes c) (entries_of j x)
     go zero z = absurd (omega arith)
     go (suc j) z = branches-placed says r k c x.frame.kids
 
@@ -190,7 +190,7 @@ adoption_is_the_trees says p m n k x = λ i. record {
   entries = same x.frame.level i;
 }
   where
-    same : (l : ℕ) → entries_of l (ceding-image (keyed says) empty_key k x) ≡ entries_of l x
+    same : (l : ℕ) → entries_of l (ceding_image (keyed says) empty_key k x) ≡ entries_of l x
     same zero = refl
     same (suc l) = refl
 

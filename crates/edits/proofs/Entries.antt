@@ -11,7 +11,7 @@ use Rattle.page_edit.specs.Edits as edit
 use Rattle.page_edit.specs.Edits.{placed_at, placed, below, has, halfway, first_half}
 use Rattle.tree.specs.Rows.{find, upto, from, set, without, Ascends, by}
 use Rattle.tree.specs.Rows as row
-use Rattle.tree.specs.Halves.{total, first_key, key-after, divider, some, divides-row}
+use Rattle.tree.specs.Halves.{total, first_key, key_after, divider, some, divides_row}
 use Rattle.tree.proofs.Rows.{upto-none, from_all}
 use Rattle.images.specs.Keys.{Key, Value, number, keyed}
 use Rattle.images.specs.Images.{leaves, branches}
@@ -123,9 +123,9 @@ module _ {A : Type 0} (mk : Key × A → Entry) (at : (e : Key × A) → entry_k
       go Equal t h w = grind arith
       go Greater t h w = grind arith
 
-  pub below-is : (d : Key) (a b : ℕ) (es : List (Key × A)) → Ascends r.rank a es b
+  pub below_is : (d : Key) (a b : ℕ) (es : List (Key × A)) → Ascends r.rank a es b
       → written mk (upto (keyed says) d es) ≡ below says d.bytes (written mk es)
-  below-is d a b es n = subst (λ c. written mk (upto c d es) ≡ below says d.bytes (written mk es)) (sym r.told) (below_by d a b es n)
+  below_is d a b es n = subst (λ c. written mk (upto c d es) ≡ below says d.bytes (written mk es)) (sym r.told) (below_by d a b es n)
 
   from-by : (d : Key) (a b : ℕ) (es : List (Key × A)) → Ascends r.rank a es b
       → written mk (from (by r.rank) d es) ≡ edit.from says d.bytes (written mk es)
@@ -176,7 +176,7 @@ module _ {A : Type 0} (mk : Key × A → Entry) (at : (e : Key × A) → entry_k
         go true h = refl
         go false h = h
 
-    pub divides-is : (k : Key) (es : List (Key × A)) → divides says k.bytes (written mk es) ≡ divides-row (keyed says) k es
+    pub divides-is : (k : Key) (es : List (Key × A)) → divides says k.bytes (written mk es) ≡ divides_row (keyed says) k es
     unfolding written has is_first_key
     divides-is k [] = refl
     divides-is k (e ∷ es) =
@@ -206,18 +206,18 @@ module _ {A : Type 0} (mk : Key × A → Entry) (at : (e : Key × A) → entry_k
       none = λ z. let g = h.none z in omega arith;
     }
 
-    after_is : (t n : ℕ) (es : List (Key × A)) → After (written mk es) (halfway t n (written mk es)) (key-after c t n es)
+    after_is : (t n : ℕ) (es : List (Key × A)) → After (written mk es) (halfway t n (written mk es)) (key_after c t n es)
     unfolding written halfway
     after_is t n [] = record { key = λ k z. absurd (no_key z); none = λ z. omega arith }
     after_is t n (e ∷ es) =
         let s : cost (mk e) ≡ c e = same e in
-        subst (λ (m : ℕ). After (mk e ∷ written mk es) (cond (leb t (2 * (n + m))) 1 (suc (halfway t (n + m) (written mk es)))) (key-after c t n (e ∷ es)))
+        subst (λ (m : ℕ). After (mk e ∷ written mk es) (cond (leb t (2 * (n + m))) 1 (suc (halfway t (n + m) (written mk es)))) (key_after c t n (e ∷ es)))
         (sym s) (go (leb t (2 * (n + c e))) (after_is t (n + c e) es))
       where
-        go : (b : Bool) → After (written mk es) (halfway t (n + c e) (written mk es)) (key-after c t (n + c e) es)
-            → After (mk e ∷ written mk es) (cond b 1 (suc (halfway t (n + c e) (written mk es)))) (cond b (first_key c es) (key-after c t (n + c e) es))
+        go : (b : Bool) → After (written mk es) (halfway t (n + c e) (written mk es)) (key_after c t (n + c e) es)
+            → After (mk e ∷ written mk es) (cond b 1 (suc (halfway t (n + c e) (written mk es)))) (cond b (first_key c es) (key_after c t (n + c e) es))
         go true h = after_first es (mk e)
-        go false h = after_more (mk e) (written mk es) (halfway t (n + c e) (written mk es)) (key-after c t (n + c e) es) h
+        go false h = after_more (mk e) (written mk es) (halfway t (n + c e) (written mk es)) (key_after c t (n + c e) es) h
 
     pub divider-is : (es : List (Key × A)) → After (written mk es) (first_half (written mk es)) (divider c es)
     unfolding first_half

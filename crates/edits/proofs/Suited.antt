@@ -10,7 +10,7 @@ use Rattle.tree.specs.Rows.{set, find}
 use Rattle.tree.specs.Tree.{Image, upper, upper_of}
 use Rattle.tree.specs.Halves.{some, total}
 use Rattle.tree.specs.Log.Change.{Format, Put, Remove, Foster, Adopt, Grow}
-use Rattle.tree.specs.Suits.{below, in_bounds, is-foster, divides-page, adopts}
+use Rattle.tree.specs.Suits.{below, in_bounds, is_foster, divides_page, adopts}
 use Rattle.images.specs.Keys.{Key, Value, keyed, pair_cost, kid_cost}
 use Rattle.images.specs.Images.{bound_of, foster_of, leaves, branches, entries_of, content_of}
 use Rattle.images.specs.Laws.{Ranked}
@@ -30,11 +30,11 @@ unfolding page.upper_of
 upper_is high None = refl
 upper_is high (Some f) = refl
 
-below-is : (says : Says) (k : Key) (u : Option Key) → below (keyed says) k u ≡ is_below says k.bytes (bound_of u)
-below-is says k None = refl
-below-is says k (Some u) = lt-told (says k.bytes u.bytes)
+below_is : (says : Says) (k : Key) (u : Option Key) → below (keyed says) k u ≡ is_below says k.bytes (bound_of u)
+below_is says k None = refl
+below_is says k (Some u) = lt-told (says k.bytes u.bytes)
 
-fosters-is : (says : Says) (k : Key) (c : ℕ) (f : Option (Key × ℕ)) → is-foster (keyed says) k c f ≡ fosters says k.bytes c (foster_of f)
+fosters-is : (says : Says) (k : Key) (c : ℕ) (f : Option (Key × ℕ)) → is_foster (keyed says) k c f ≡ fosters says k.bytes c (foster_of f)
 unfolding fosters
 fosters-is says k c None = refl
 fosters-is says k c (Some f) = ap (λ (b : Bool). b && eqb c f.1) (eq-told (says k.bytes f.0.bytes))
@@ -48,9 +48,9 @@ module _ (says : Says) (q m : ℕ) (x : Image Key Value) where
   unfolding content_of page.upper
   holds-is k =
       ap₂ (λ (a b : Bool). a && b) (le-told (says x.frame.low.bytes k.bytes))
-      (below-is says k (upper x.frame) ∙ ap (λ (u : Bound). is_below says k.bytes u) (sym (upper_is x.frame.high x.frame.foster)))
+      (below_is says k (upper x.frame) ∙ ap (λ (u : Bound). is_below says k.bytes u) (sym (upper_is x.frame.high x.frame.foster)))
 
-  divides_at : (d : Key) (l : ℕ) → divides-page (keyed says) pair_cost kid_cost d l x ≡ divides says d.bytes (entries_of l x)
+  divides_at : (d : Key) (l : ℕ) → divides_page (keyed says) pair_cost kid_cost d l x ≡ divides says d.bytes (entries_of l x)
   divides_at d zero = sym (leaves-divide says d x.pairs)
   divides_at d (suc l) = sym (branches-divide says d x.frame.kids)
 
@@ -59,19 +59,19 @@ module _ (says : Says) (q m : ℕ) (x : Image Key Value) where
   removes-at k (suc l) = both_false (eqb (suc l) 0) _ _ (not-leaf l)
 
   module _ (r : Ranked says) where
-    pairs-room : (k : Key) (v : Value) (es : List (Key × Value))
+    pairs_room : (k : Key) (v : Value) (es : List (Key × Value))
         → leb (total pair_cost (set (keyed says) k v es)) 436 ≡ have_room (placed says (leaf k.bytes v.bytes) (leaves es))
-    pairs-room k v es = ap (λ n. leb n 436) (sym (leaves-cost (set (keyed says) k v es)) ∙ ap costs (leaves-placed says r k v es))
+    pairs_room k v es = ap (λ n. leb n 436) (sym (leaves-cost (set (keyed says) k v es)) ∙ ap costs (leaves-placed says r k v es))
 
-    kids-room : (k : Key) (c : ℕ) (es : List (Key × ℕ))
+    kids_room : (k : Key) (c : ℕ) (es : List (Key × ℕ))
         → leb (total kid_cost (set (keyed says) k c es)) 436 ≡ have_room (placed says (branch k.bytes c) (branches es))
-    kids-room k c es = ap (λ n. leb n 436) (sym (branches-cost (set (keyed says) k c es)) ∙ ap costs (branches-placed says r k c es))
+    kids_room k c es = ap (λ n. leb n 436) (sym (branches-cost (set (keyed says) k c es)) ∙ ap costs (branches-placed says r k c es))
 
     -- a test of the range, and the same on the content
     puts-at : (k : Key) (v : Value) (a b : Bool) → a ≡ b → (l : ℕ)
         → (eqb l 0 && (a && leb (total pair_cost (set (keyed says) k v x.pairs)) 436))
         ≡ (eqb l 0 && (b && have_room (placed says (leaf k.bytes v.bytes) (entries_of l x))))
-    puts-at k v a b e zero = ap₂ (λ (y z : Bool). y && z) e (pairs-room k v x.pairs)
+    puts-at k v a b e zero = ap₂ (λ (y z : Bool). y && z) e (pairs_room k v x.pairs)
     puts-at k v a b e (suc l) = both_false (eqb (suc l) 0) _ _ (not-leaf l)
 
     adopts-at : (k : Key) (c : ℕ) (b : Bool) → in_bounds (keyed says) k x.frame ≡ b → (l : ℕ)
@@ -80,7 +80,7 @@ module _ (says : Says) (q m : ℕ) (x : Image Key Value) where
     adopts-at k c b e zero = refl
     adopts-at k c b e (suc l) =
         ap₂ (λ (y z : Bool). y && z) e
-        (ap₂ (λ (y z : Bool). not y && z) (sym (branches_have says k x.frame.kids)) (kids-room k c x.frame.kids))
+        (ap₂ (λ (y z : Bool). not y && z) (sym (branches_have says k x.frame.kids)) (kids_room k c x.frame.kids))
         ∙ sym (ap (λ (t : Bool). not t && (b && (not (has says k.bytes (branches x.frame.kids)) && have_room (placed says (branch k.bytes c) (branches x.frame.kids))))) (not-leaf l))
 
 pub suits_is_the_trees : SuitsIsTheTrees

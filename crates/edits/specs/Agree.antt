@@ -4,7 +4,7 @@ use Rattle.order.specs.Lawful.{Says}
 use Rattle.page.specs.Content.{Content, entry_key, entry_at, costs}
 use Rattle.page_edit.specs.Edits.{first_half, formatted, after_put, after_remove, after_adopting, lower_half, upper_half, after_adoption, grown_root, grown_child, has}
 use Rattle.tree.specs.Rows.{find}
-use Rattle.tree.specs.Tree.{Image, putting, removing, gaining-image, lower-image, upper-image, ceding-image, risen-image}
+use Rattle.tree.specs.Tree.{Image, putting, removing, gaining_image, lower_image, upper_image, ceding_image, risen_image}
 use Rattle.tree.specs.Log.{Change, blank}
 use Rattle.tree.specs.Halves.{some, total, divider}
 use Rattle.tree.specs.Suits.{Form, suits}
@@ -25,7 +25,7 @@ RemoveIsTheTrees = (says : Says) (r : Ranked says) (p m n : ℕ) (k : Key) (x : 
 
 abbrev pub AdoptingIsTheTrees : Type 0
 AdoptingIsTheTrees = (says : Says) → Ranked says → (p m n : ℕ) (k : Key) (c : ℕ) (x : Image Key Value) (l : ℕ) → x.frame.level ≡ suc l
-    → content_of p n (gaining-image (keyed says) empty_key k c x) ≡ after_adopting says n k.bytes c (content_of p m x)
+    → content_of p n (gaining_image (keyed says) empty_key k c x) ≡ after_adopting says n k.bytes c (content_of p m x)
 
 -- an entry has a key exactly if the tree finds it
 abbrev pub HasIsTheTrees : Type 0
@@ -35,16 +35,16 @@ HasIsTheTrees = (says : Says) (p m : ℕ) (k : Key) (x : Image Key Value)
 
 abbrev pub HalvesAreTheTrees : Type 0
 HalvesAreTheTrees = (says : Says) (r : Ranked says) (p q m n : ℕ) (d : Key) (x : Image Key Value) → Form r.rank r.top x
-    → (content_of p n (lower-image (keyed says) empty_key d q x) ≡ lower_half says n d.bytes q (content_of p m x))
-    × (content_of q n (upper-image (keyed says) empty_key d x) ≡ upper_half says n d.bytes q (content_of p m x))
+    → (content_of p n (lower_image (keyed says) empty_key d q x) ≡ lower_half says n d.bytes q (content_of p m x))
+    × (content_of q n (upper_image (keyed says) empty_key d x) ≡ upper_half says n d.bytes q (content_of p m x))
 
 abbrev pub AdoptionIsTheTrees : Type 0
 AdoptionIsTheTrees = (says : Says) (p m n : ℕ) (k : Key) (x : Image Key Value)
-    → content_of p n (ceding-image (keyed says) empty_key k x) ≡ after_adoption n k.bytes (content_of p m x)
+    → content_of p n (ceding_image (keyed says) empty_key k x) ≡ after_adoption n k.bytes (content_of p m x)
 
 abbrev pub GrowthIsTheTrees : Type 0
 GrowthIsTheTrees = (says : Says) (q m n : ℕ) (x : Image Key Value)
-    → (x.frame.low ≡ empty_key → x.frame.high ≡ None → content_of 0 n (risen-image (keyed says) empty_key q x) ≡ grown_root n q (content_of 0 m x))
+    → (x.frame.low ≡ empty_key → x.frame.high ≡ None → content_of 0 n (risen_image (keyed says) empty_key q x) ≡ grown_root n q (content_of 0 m x))
     × (content_of q n x ≡ grown_child n q (content_of 0 m x))
 
 abbrev pub FormatIsTheTrees : Type 0

@@ -4,7 +4,7 @@ use Prim.Native.Nat.{Ordering}
 use Rattle.std.proofs.lemmas.Bool.{ltb-true}
 use Rattle.order.specs.Lawful.{Says}
 use Rattle.tree.specs.Tree.{Image}
-use Rattle.tree.specs.Walk.{Fetched, Due, visit, check, onward_due, due-root, Formed}
+use Rattle.tree.specs.Walk.{Fetched, Due, visit, check, onward_due, due_root, Formed}
 use Rattle.tree.specs.Walk.Fault.{Gone}
 use Rattle.tree.specs.Walk.Fetched.{Page, Failed}
 use Rattle.tree.proofs.Short.{heft, heft_of, left, left-falls, left_most, lighter}
@@ -108,7 +108,7 @@ module _ (says : Says) (r : Ranked says) (k : Key) (born-are : ℕ) (means : ℕ
           → (x : Image Key Value) → (fetching says v p).answer ≡ Ok x → arrived says (going says k n) k p d x on ≡ arrived says (going says k m) k p d x on
       arrive o ih x e = compare_same ih x (sym (s.meant p) ∙ e) o (check (keyed says) d x.frame) refl
 
-  enough : (n : ℕ) → suc born-are ≤ n → Spare n 0 (due-root empty_key)
+  enough : (n : ℕ) → suc born-are ≤ n → Spare n 0 (due_root empty_key)
   enough n h = (omega arith, λ x e c b. omega (arith, left_most r.rank r.top empty_key r.ranking fetch born-are fetch-formed k 0 b))
 
 pub ways_end_over_any_pages : WaysEndOverAnyPages
@@ -117,5 +117,5 @@ ways_end_over_any_pages says law w k n h =
     let r = orders_rank_keys says law in
     let means : ℕ → Result (Image Key Value) Refusal = λ q. (fetching says w q).answer in
     let formed = fetched_formed says r w in
-    going-same says r k (born w) means formed n (suc (born w)) w (record { borns = refl; meant = λ q. refl }) 0 (due-root empty_key)
+    going-same says r k (born w) means formed n (suc (born w)) w (record { borns = refl; meant = λ q. refl }) 0 (due_root empty_key)
     (enough says r k (born w) means formed n h) (enough says r k (born w) means formed (suc (born w)) (omega arith))

@@ -75,7 +75,7 @@ built_is_sturdy says w p n x e = built_sturdy (keyed says) (rec_at w.journal) (r
 
 form-formed : (says : Says) (r : Ranked says) (x : Image Key Value) → Form r.rank r.top x → Formed r.rank r.top x
 form-formed says r x form = record {
-  foster-above = λ f e. subst (λ (o : Option (Key × ℕ)). r.rank x.frame.low < edge r.rank r.top (upper_of o x.frame.high)) e form.spans;
+  foster_above = λ f e. subst (λ (o : Option (Key × ℕ)). r.rank x.frame.low < edge r.rank r.top (upper_of o x.frame.high)) e form.spans;
   ascends = form.kids_ascend;
 }
 

@@ -28,7 +28,7 @@ use Rattle.tree.proofs.Upd.{none-some}
 use Rattle.images.specs.Keys.{Key, Value, number, fence_of}
 use Rattle.images.specs.Images.{bound_of, foster_of, branches, entries_of, content_of, encode_image, bound_in, foster_in, pairs_in, kids_in, entries_in, image_in, stored_as, stored_in, stored_page}
 use Rattle.images.specs.Laws.{Ranked}
-use Rattle.images.proofs.Strings.{key-length, opt-some, opt-parts, fence_back, fence_bytes}
+use Rattle.images.proofs.Strings.{key_length, opt-some, opt-parts, fence_back, fence_bytes}
 use Rattle.images.proofs.Formed.{leaves-cost, branches-cost, leaves-kinded, bound_back, foster_back, pairs_back, kids_back}
 use Rattle.endings.proofs.Sturdy.{Sturdy}
 
@@ -173,21 +173,21 @@ module _ (says : Says) (r : Ranked says) where
       let high = opt-parts (bound_in c.high) _ x low.2 in
       let foster = opt-parts (foster_in c.foster) _ x high.2 in
       let es = opt-parts (entries_in c.level c.entries) _ x foster.2 in
-      let low-is = fence_bytes c.low low.0 low.1 in
+      let low_is = fence_bytes c.low low.0 low.1 in
       let high_is = bound-told c.high high.0 high.1 in
       let foster-is = foster-told c.foster foster.0 foster.1 in
       let h = and_parts (is_below says c.low c.high && is_between says c.low c.high c.foster) _ o in
       let between = (and_parts (is_below says c.low c.high) (is_between says c.low c.high c.foster) h.0).1 in
       let fenced : is_between says low.0.bytes (bound_of high.0) (foster_of foster.0) ≡ true =
-      (λ i. is_between says (low-is i) (high_is i) (foster-is i)) ∙ between in
+      (λ i. is_between says (low_is i) (high_is i) (foster-is i)) ∙ between in
       let keys : are_keys says c.level (bound_of (upper_of foster.0 high.0)) low.0.bytes c.entries ≡ true =
       ap (λ (u : Bound). are_keys says c.level u low.0.bytes c.entries) (sym (upper_is high.0 foster.0))
-      ∙ (λ i. are_keys says c.level (page.upper_of (high_is i) (foster-is i)) (low-is i) c.entries) ∙ h.1 in
+      ∙ (λ i. are_keys says c.level (page.upper_of (high_is i) (foster-is i)) (low_is i) c.entries) ∙ h.1 in
       let y : Image Key Value = record { frame = record { level = c.level; low = low.0; high = high.0; foster = foster.0; kids = es.0.0 }; pairs = es.0.1 } in
       let i : ◌≡◌ {A = Option (Image Key Value)} (Some y) (Some x) = es.2 in
       let z : y ≡ x = cc in
       let formed : Formed r.rank r.top y = record {
-        foster-above = foster_up low.0 (bound_of high.0) foster.0 fenced;
+        foster_above = foster_up low.0 (bound_of high.0) foster.0 fenced;
         ascends = entries_ascend c.level (upper_of foster.0 high.0) low.0 c.entries es.0 es.1 keys;
       } in
       subst (λ (i : Image Key Value). Formed r.rank r.top i) z formed
@@ -207,13 +207,13 @@ head-fits c = (omega arith, omega arith)
 
 bound-short : (h : Option Key) → Short (bound_of h)
 bound-short None = tt
-bound-short (Some k) = key-length k
+bound-short (Some k) = key_length k
 
 foster-fits : (f : Option (Key × ℕ)) → ((g : Key × ℕ) → f ≡ Some g → (g.1 ≡ 0 → ⊥) × (g.1 < 2 ^ 32))
     → (foster_child (foster_of f) < 2 ^ 32) × (page-image.foster_of (foster_key (foster_of f)) (foster_child (foster_of f)) ≡ foster_of f) × (length (foster_key (foster_of f)) ≤ 16)
 unfolding foster_child foster_key page-image.foster_of
 foster-fits None h = (omega arith, refl, omega arith)
-foster-fits (Some f) h = let t = h f refl in (t.1, foster-some f.0.bytes f.1 t.0, key-length f.0)
+foster-fits (Some f) h = let t = h f refl in (t.1, foster-some f.0.bytes f.1 t.0, key_length f.0)
 
 branches-kinded : (l : ℕ) (es : List (Key × ℕ)) → All (λ (e : Key × ℕ). e.1 < 2 ^ 32) es → AllKinded (suc l) (branches es)
 unfolding branches
@@ -226,8 +226,8 @@ module _ (x : Image Key Value) (h : Sturdy x) where
   kinded (suc l) = branches-kinded l x.frame.kids h.kids
 
   room : (l : ℕ) → costs (entries_of l x) ≤ 436
-  room zero = omega (arith, leaves-cost x.pairs, h.pairs-room)
-  room (suc l) = omega (arith, branches-cost x.frame.kids, h.kids-room)
+  room zero = omega (arith, leaves-cost x.pairs, h.pairs_room)
+  room (suc l) = omega (arith, branches-cost x.frame.kids, h.kids_room)
 
   fits : (p n : ℕ) → p < 2 ^ 32 → n < 2 ^ 32 → Fit (content_of p n x)
   unfolding content_of
@@ -238,7 +238,7 @@ module _ (x : Image Key Value) (h : Sturdy x) where
         lsn = hn;
         child = f.0;
         foster = f.1;
-        low = key-length x.frame.low;
+        low = key_length x.frame.low;
         high = bound-short x.frame.high;
         fkey = f.2;
         kinded = kinded x.frame.level;
@@ -252,7 +252,7 @@ module _ (x : Image Key Value) (h : Sturdy x) where
       (ap {B = Option (List (Key × ℕ) × List (Key × Value))} (λ (y : List (Key × ℕ)). Some (y, x.pairs)) (sym (h.leaf_kids e)))
   entries_back (suc l) e =
       opt-some _ x.frame.kids _ _ (kids_back x.frame.kids)
-      (ap {B = Option (List (Key × ℕ) × List (Key × Value))} (λ (y : List (Key × Value)). Some (x.frame.kids, y)) (sym (h.branch-pairs l e)))
+      (ap {B = Option (List (Key × ℕ) × List (Key × Value))} (λ (y : List (Key × Value)). Some (x.frame.kids, y)) (sym (h.branch_pairs l e)))
 
   image_back : (p n : ℕ) → image_in (content_of p n x) ≡ Some x
   unfolding image_in content_of

@@ -90,7 +90,7 @@ or-misfit n None h = tt
 or-misfit n (Some r) h = go (names_well n r) refl
   where
     go : (t : Bool) → names_well n r ≡ t → Plain (cond t r (misfit n)).change
-    go true e = named_plain n r.change r.prev r.prev-other (h r refl) e
+    go true e = named_plain n r.change r.prev r.prev_other (h r refl) e
     go false e = tt
 
 pub record_plain : (j : Journal) (n : ℕ) (r : Rec Key Value) → rec_at j n ≡ Some r → Plain r.change

@@ -4,13 +4,13 @@ use Prim.Native.Nat.{Ordering}
 use Rattle.std.proofs.lemmas.Bool.{cond_both, and_parts, leb-true, eqb-true}
 use Rattle.ranks.specs.Lists.{All}
 use Rattle.tree.specs.Rows.{set, without, upto, from}
-use Rattle.tree.specs.Tree.{Image, lower-image, upper-image, gaining-image, ceding-image, risen-image}
+use Rattle.tree.specs.Tree.{Image, lower_image, upper_image, gaining_image, ceding_image, risen_image}
 use Rattle.tree.specs.Log.{Change, Rec, Source, source, source_of, make, blank, Built, then_make, at_source, at_slot, rebuild}
 use Rattle.tree.specs.Log.Change.{Format, Put, Remove, Foster, Adopt, Grow}
 use Rattle.tree.specs.Log.Source.{Out, Fresh, Earlier}
 use Rattle.tree.specs.Log.Built.{Done, Lost, Misfit}
 use Rattle.tree.specs.Halves.{total}
-use Rattle.tree.specs.Suits.{in_bounds, is-foster, adopts, suits}
+use Rattle.tree.specs.Suits.{in_bounds, is_foster, adopts, suits}
 use Rattle.tree.proofs.Upd.{none-some}
 use Rattle.images.specs.Keys.{Key, Value, empty_key, pair_cost, kid_cost}
 use Rattle.endings.proofs.Rows.{all_set, all_without, all-upto, all_from, without-costs, upto-costs, from-costs}
@@ -18,12 +18,12 @@ use Rattle.endings.proofs.Rows.{all_set, all_without, all-upto, all_from, withou
 -- an image that its own page's bytes tell, whatever the page
 pub record Sturdy (x : Image Key Value) : Type 0 where
   pub leaf_kids : x.frame.level ≡ 0 → x.frame.kids ≡ []
-  pub branch-pairs : (l : ℕ) → x.frame.level ≡ suc l → x.pairs ≡ []
+  pub branch_pairs : (l : ℕ) → x.frame.level ≡ suc l → x.pairs ≡ []
   pub named : All (λ (e : Key × Value). 0 < length e.0.bytes) x.pairs
   pub fosters : (f : Key × ℕ) → x.frame.foster ≡ Some f → (f.1 ≡ 0 → ⊥) × (f.1 < 2 ^ 32)
   pub kids : All (λ (e : Key × ℕ). e.1 < 2 ^ 32) x.frame.kids
-  pub pairs-room : total pair_cost x.pairs ≤ 436
-  pub kids-room : total kid_cost x.frame.kids ≤ 436
+  pub pairs_room : total pair_cost x.pairs ≤ 436
+  pub kids_room : total kid_cost x.frame.kids ≤ 436
 
 -- a change as records tell it
 abbrev pub Plain : Change Key Value → Type 0
@@ -72,7 +72,7 @@ module _ {K V : Type 0} (cmp : K → K → Ordering) (least : K) (ok : Change K 
           → ((q m : ℕ) (y : Image K V) → rebuild cmp least ok read f q m ≡ Done y → P y) → P x
       from-source r g Out j i ih = absurd (misfit-done n x i)
       from-source r g Fresh j i ih =
-          subst P (done-is (make cmp least r.change p (blank cmp least)) x i) (fresh-is r.change r.prev r.prev-other p j)
+          subst P (done-is (make cmp least r.change p (blank cmp least)) x i) (fresh-is r.change r.prev r.prev_other p j)
       from-source r g (Earlier q m) j i ih = go (ltb m n) i
         where
           go : (t : Bool) → cond t (then_make n (ok r.change p) (make cmp least r.change p) (rebuild cmp least ok read f q m)) (Misfit n) ≡ Done x → P x
@@ -91,25 +91,25 @@ module _ (cmp : Key → Key → Ordering) where
   blank_sturdy : Sturdy (blank cmp empty_key)
   blank_sturdy = record {
     leaf_kids = λ e. refl;
-    branch-pairs = λ l e. refl;
+    branch_pairs = λ l e. refl;
     named = tt;
     fosters = λ f e. absurd (none-some f e);
     kids = tt;
-    pairs-room = omega arith;
-    kids-room = omega arith;
+    pairs_room = omega arith;
+    kids_room = omega arith;
   }
 
   gained : (k : Key) (c : ℕ) (x : Image Key Value) → c < 2 ^ 32 → Sturdy x → (l : ℕ) → x.frame.level ≡ l → adopts cmp pair_cost kid_cost k c l x ≡ true
-      → Sturdy (gaining-image cmp empty_key k c x)
+      → Sturdy (gaining_image cmp empty_key k c x)
   gained k c x h s zero e t = let z : ◌≡◌ {A = ℕ} 0 1 = cc in absurd (omega arith)
   gained k c x h s (suc l) e t = record {
     leaf_kids = λ i. absurd (omega arith);
-    branch-pairs = s.branch-pairs;
+    branch_pairs = s.branch_pairs;
     named = s.named;
     fosters = s.fosters;
     kids = all_set cmp (λ (i : Key × ℕ). i.1 < 2 ^ 32) k c x.frame.kids h s.kids;
-    pairs-room = s.pairs-room;
-    kids-room = leb-true (total kid_cost (set cmp k c x.frame.kids)) 436 (and_parts _ _ (and_parts (in_bounds cmp k x.frame) _ t).1).1;
+    pairs_room = s.pairs_room;
+    kids_room = leb-true (total kid_cost (set cmp k c x.frame.kids)) 436 (and_parts _ _ (and_parts (in_bounds cmp k x.frame) _ t).1).1;
   }
 
   made_sturdy : (c : Change Key Value) (p : ℕ) (x : Image Key Value) → ok c p x ≡ true → Plain c → Sturdy x → Sturdy (make cmp empty_key c p x)
@@ -120,62 +120,62 @@ module _ (cmp : Key → Key → Ordering) where
       let leaf = eqb-true x.frame.level 0 a.0 in
       record {
         leaf_kids = s.leaf_kids;
-        branch-pairs = λ l e. absurd (omega arith);
+        branch_pairs = λ l e. absurd (omega arith);
         named = all_set cmp (λ (e : Key × Value). 0 < length e.0.bytes) k v x.pairs h s.named;
         fosters = s.fosters;
         kids = s.kids;
-        pairs-room = leb-true (total pair_cost (set cmp k v x.pairs)) 436 b.1;
-        kids-room = s.kids-room;
+        pairs_room = leb-true (total pair_cost (set cmp k v x.pairs)) 436 b.1;
+        kids_room = s.kids_room;
       }
   made_sturdy (Remove q k) p x t h s = record {
     leaf_kids = s.leaf_kids;
-    branch-pairs = λ l e. ap (without cmp k) (s.branch-pairs l e);
+    branch_pairs = λ l e. ap (without cmp k) (s.branch_pairs l e);
     named = all_without cmp (λ (e : Key × Value). 0 < length e.0.bytes) k x.pairs s.named;
     fosters = s.fosters;
     kids = s.kids;
-    pairs-room = omega (arith, s.pairs-room, without-costs cmp pair_cost k x.pairs);
-    kids-room = s.kids-room;
+    pairs_room = omega (arith, s.pairs_room, without-costs cmp pair_cost k x.pairs);
+    kids_room = s.kids_room;
   }
-  made_sturdy (Foster q o d) p x t h s = cond_both (eqb p o) (upper-image cmp empty_key d x) (lower-image cmp empty_key d o x) Sturdy
+  made_sturdy (Foster q o d) p x t h s = cond_both (eqb p o) (upper_image cmp empty_key d x) (lower_image cmp empty_key d o x) Sturdy
       (λ _. record {
         leaf_kids = λ e. ap (from cmp d) (s.leaf_kids e);
-        branch-pairs = λ l e. ap (from cmp d) (s.branch-pairs l e);
+        branch_pairs = λ l e. ap (from cmp d) (s.branch_pairs l e);
         named = all_from cmp (λ (e : Key × Value). 0 < length e.0.bytes) d x.pairs s.named;
         fosters = s.fosters;
         kids = all_from cmp (λ (e : Key × ℕ). e.1 < 2 ^ 32) d x.frame.kids s.kids;
-        pairs-room = omega (arith, s.pairs-room, from-costs cmp pair_cost d x.pairs);
-        kids-room = omega (arith, s.kids-room, from-costs cmp kid_cost d x.frame.kids);
+        pairs_room = omega (arith, s.pairs_room, from-costs cmp pair_cost d x.pairs);
+        kids_room = omega (arith, s.kids_room, from-costs cmp kid_cost d x.frame.kids);
       })
       (λ _. record {
         leaf_kids = λ e. ap (upto cmp d) (s.leaf_kids e);
-        branch-pairs = λ l e. ap (upto cmp d) (s.branch-pairs l e);
+        branch_pairs = λ l e. ap (upto cmp d) (s.branch_pairs l e);
         named = all-upto cmp (λ (e : Key × Value). 0 < length e.0.bytes) d x.pairs s.named;
         fosters = λ f e. let u : o ≡ f.1 = ap (λ w. elim w [ None ↦ o | Some z ↦ z.1 ]) e in (λ z. h.0 (u ∙ z), omega (arith, u, h.1));
         kids = all-upto cmp (λ (e : Key × ℕ). e.1 < 2 ^ 32) d x.frame.kids s.kids;
-        pairs-room = omega (arith, s.pairs-room, upto-costs cmp pair_cost d x.pairs);
-        kids-room = omega (arith, s.kids-room, upto-costs cmp kid_cost d x.frame.kids);
+        pairs_room = omega (arith, s.pairs_room, upto-costs cmp pair_cost d x.pairs);
+        kids_room = omega (arith, s.kids_room, upto-costs cmp kid_cost d x.frame.kids);
       })
-  made_sturdy (Adopt q o k c) p x t h s = cond_both (eqb p o) (ceding-image cmp empty_key k x) (gaining-image cmp empty_key k c x) Sturdy
+  made_sturdy (Adopt q o k c) p x t h s = cond_both (eqb p o) (ceding_image cmp empty_key k x) (gaining_image cmp empty_key k c x) Sturdy
       (λ _. record {
         leaf_kids = s.leaf_kids;
-        branch-pairs = s.branch-pairs;
+        branch_pairs = s.branch_pairs;
         named = s.named;
         fosters = λ f e. absurd (none-some f e);
         kids = s.kids;
-        pairs-room = s.pairs-room;
-        kids-room = s.kids-room;
+        pairs_room = s.pairs_room;
+        kids_room = s.kids_room;
       })
       (λ e. gained k c x h s x.frame.level refl
-      (sym (ap (λ b. cond b (is-foster cmp k c x.frame.foster) (adopts cmp pair_cost kid_cost k c x.frame.level x)) e) ∙ t))
-  made_sturdy (Grow o) p x t h s = cond_both (eqb p 0) (risen-image cmp empty_key o x) x Sturdy
+      (sym (ap (λ b. cond b (is_foster cmp k c x.frame.foster) (adopts cmp pair_cost kid_cost k c x.frame.level x)) e) ∙ t))
+  made_sturdy (Grow o) p x t h s = cond_both (eqb p 0) (risen_image cmp empty_key o x) x Sturdy
       (λ _. record {
         leaf_kids = λ e. absurd (omega arith);
-        branch-pairs = λ l e. refl;
+        branch_pairs = λ l e. refl;
         named = tt;
         fosters = λ f e. absurd (none-some f e);
         kids = (h, tt);
-        pairs-room = omega arith;
-        kids-room = omega arith;
+        pairs_room = omega arith;
+        kids_room = omega arith;
       })
       (λ _. s)
 

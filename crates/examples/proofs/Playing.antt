@@ -48,7 +48,7 @@ unfolding cutting cut_off_world
 plays-cut zero a f [] x w e = absurd (true≢false (sym e))
 plays-cut (suc n) a f [] x w e = absurd (true≢false (sym e))
 plays-cut zero a f (y ∷ xs) x w e =
-    inl (record { in-append = a; in_write = f; leaves = refl; off = not-true (powered y (acted a f y w)) e; answers = refl })
+    inl (record { in_append = a; in_write = f; leaves = refl; off = not-true (powered y (acted a f y w)) e; answers = refl })
 plays-cut (suc n) a f (y ∷ xs) x w e =
     let t = and_parts (powered y (did y w)) (cutting n a f xs (did y w)) e in
     inr (t.0, plays-cut n a f xs x (did y w) t.1)

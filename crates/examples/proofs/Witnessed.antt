@@ -234,9 +234,9 @@ module _ (s : Store) (e : status_of s ≡ open_status) where
   unfolding Status status_of open_status
   is_open = ap (λ (t : Status). t.0) e
 
-  disk-on : s.world.disk.on ≡ true
+  disk_on : s.world.disk.on ≡ true
   unfolding Status status_of open_status
-  disk-on = ap (λ (t : Status). t.1) e
+  disk_on = ap (λ (t : Status). t.1) e
 
   log-on : s.world.journal.on ≡ true
   unfolding Status status_of open_status
@@ -246,9 +246,9 @@ module _ (s : Store) (e : status_of s ≡ open_status) where
   unfolding Status status_of open_status
   capacity-is = ap (λ (t : Status). t.3) e
 
-  none-lost : none_lost s.world.journal.records ≡ true
+  none_is_lost : none_lost s.world.journal.records ≡ true
   unfolding Status status_of open_status
-  none-lost = ap (λ (t : Status). t.4) e
+  none_is_lost = ap (λ (t : Status). t.4) e
 
 module _ (h : History) (t : Tale) (now ago : Option (List ℕ)) (e : heard_of h ≡ hears t now ago) where
   tale_is : tale_of h ≡ t
@@ -285,14 +285,14 @@ on-run cs e i = subst (λ t. Run by_byte (on_heard cs) (on_added cs) t (on_store
     (runs_on (cut_store not_added) cs (cut_heard not_added) (cut_added not_added) (cut-run not_added cut_off) e)
 
 six-reads : Reads six_store.world.journal.records (on_added again_calls)
-six-reads = subst (Reads six_store.world.journal.records) (sym six-added) (reads_all six_store.world.journal.records (none-lost six_store six_status))
+six-reads = subst (Reads six_store.world.journal.records) (sym six-added) (reads_all six_store.world.journal.records (none_is_lost six_store six_status))
 
 harmed-run : Run by_byte (on_heard again_calls) (on_added again_calls) state.Open harmed_store.world
 unfolding six_store harmed_store old_page
 harmed-run = harms (on-run again_calls again_lasts six_status)
     (harm_page (on_added again_calls) six_store 1 (page_then six_store 1 7)
     (old_fails ((meant by_byte (on_added again_calls) six_store.world).newest 1) (stored_page by_byte 1 (page_then six_store 1 7)) (omega (arith, old-position, six-newest)))
-    (disk-on six_store six_status) six-reads)
+    (disk_on six_store six_status) six-reads)
 
 lossy_run : Run by_byte (on_heard again_calls) (on_added again_calls) state.Open lossy_store.world
 unfolding lossy_store losing harmed_store old_page harmed
@@ -306,7 +306,7 @@ harmed_page : HarmedPage (on_added again_calls) harmed_store.world 1
 harmed_page e = let i = ap lsn_of e in omega (arith, harmed-position, six-newest)
 
 well_formed : (w : World) → w.journal.capacity ≡ 32 → WellFormed (full_key 6) sixth_key 64 32 w
-well_formed w e = record { key-is = sixth_key_is; room-is = omega arith; work_is = omega arith }
+well_formed w e = record { key_is = sixth_key_is; room_is = omega arith; work_is = omega arith }
 
 absent_after_a_cut : AbsentAfterACut
 unfolding get_sixth next_sixth

@@ -11,7 +11,7 @@ use Rattle.tree.specs.Suits.{first_of}
 use Rattle.images.specs.Keys.{Key, Value, pair_cost, kid_cost}
 use Rattle.images.specs.Images.{bound_of, foster_of, leaves, branches, entries_of, content_of, bound_in, foster_in, pairs_in, kids_in, entries_in, image_in}
 use Rattle.images.specs.Laws.{Child, Shaped}
-use Rattle.images.proofs.Strings.{key-length, value-length, opt-some, fence_back, key_back, value_back}
+use Rattle.images.proofs.Strings.{key_length, value_length, opt-some, fence_back, key_back, value_back}
 
 child-passes : (p c : ℕ) → Child p c → is_child p c ≡ true
 unfolding is_child
@@ -24,14 +24,14 @@ leaves_pass p [] h = refl
 leaves_pass p (e ∷ es) h =
     and_from _ _
     (and_from _ _ (le-leb 1 (length e.0.bytes) h.0)
-    (and_from _ _ (le-leb (length e.0.bytes) 16 (key-length e.0)) (le-leb (length e.1.bytes) 64 (value-length e.1))))
+    (and_from _ _ (le-leb (length e.0.bytes) 16 (key_length e.0)) (le-leb (length e.1.bytes) 64 (value_length e.1))))
     (leaves_pass p es h.1)
 
 branches_pass : (p : ℕ) (es : List (Key × ℕ)) → All (λ (e : Key × ℕ). Child p e.1) es → are_entries p (branches es) ≡ true
 unfolding branches are_entries is_entry
 branches_pass p [] h = refl
 branches_pass p (e ∷ es) h =
-    and_from _ _ (and_from _ _ (le-leb (length e.0.bytes) 16 (key-length e.0)) (child-passes p e.1 h.0)) (branches_pass p es h.1)
+    and_from _ _ (and_from _ _ (le-leb (length e.0.bytes) 16 (key_length e.0)) (child-passes p e.1 h.0)) (branches_pass p es h.1)
 
 pub leaves-cost : (es : List (Key × Value)) → costs (leaves es) ≡ total pair_cost es
 unfolding leaves costs cost
@@ -66,12 +66,12 @@ branch-enough l k (e ∷ es) h = refl
 bound-short : (h : Option Key) → is_short (bound_of h) ≡ true
 unfolding is_short
 bound-short None = refl
-bound-short (Some k) = le-leb (length k.bytes) 16 (key-length k)
+bound-short (Some k) = le-leb (length k.bytes) 16 (key_length k)
 
 foster-passes : (p : ℕ) (f : Option (Key × ℕ)) → ((g : Key × ℕ) → f ≡ Some g → Child p g.1) → is_foster p (foster_of f) ≡ true
 unfolding is_foster
 foster-passes p None h = refl
-foster-passes p (Some f) h = and_from _ _ (le-leb (length f.0.bytes) 16 (key-length f.0)) (child-passes p f.1 (h f refl))
+foster-passes p (Some f) h = and_from _ _ (le-leb (length f.0.bytes) 16 (key_length f.0)) (child-passes p f.1 (h f refl))
 
 foster-fits : (p : ℕ) (f : Option (Key × ℕ)) → ((g : Key × ℕ) → f ≡ Some g → Child p g.1) → foster_child (foster_of f) < 2 ^ 32
 unfolding foster_child
@@ -102,15 +102,15 @@ kids_back (e ∷ es) = opt-some _ e.0 _ _ (fence_back e.0) (opt-some _ es _ _ (k
 module _ (rank : Key → ℕ) (top p : ℕ) (x : Image Key Value) (h : Shaped rank top p x) where
   enough : (l : ℕ) → x.frame.level ≡ l → are_enough l (entries_of l x) ≡ true
   enough zero e = leaf-enough x.pairs
-  enough (suc l) e = branch-enough l x.frame.low x.frame.kids (h.form.first-is l e)
+  enough (suc l) e = branch-enough l x.frame.low x.frame.kids (h.form.first_is l e)
 
   entries_pass : (l : ℕ) → are_entries p (entries_of l x) ≡ true
   entries_pass zero = leaves_pass p x.pairs h.named
   entries_pass (suc l) = branches_pass p x.frame.kids h.kids
 
   entries_fit : (l : ℕ) → costs (entries_of l x) ≤ 436
-  entries_fit zero = let t = leaves-cost x.pairs in let r = h.pairs-room in omega arith
-  entries_fit (suc l) = let t = branches-cost x.frame.kids in let r = h.kids-room in omega arith
+  entries_fit zero = let t = leaves-cost x.pairs in let r = h.pairs_room in omega arith
+  entries_fit (suc l) = let t = branches-cost x.frame.kids in let r = h.kids_room in omega arith
 
   entries-kinded : (l : ℕ) → AllKinded l (entries_of l x)
   entries-kinded zero = leaves-kinded x.pairs
@@ -120,7 +120,7 @@ module _ (rank : Key → ℕ) (top p : ℕ) (x : Image Key Value) (h : Shaped ra
   unfolding is_form content_of
   has-form n =
       and_from _ _
-      (and_from _ _ (le-leb (length x.frame.low.bytes) 16 (key-length x.frame.low))
+      (and_from _ _ (le-leb (length x.frame.low.bytes) 16 (key_length x.frame.low))
       (and_from _ _ (bound-short x.frame.high) (foster-passes p x.frame.foster h.fosters)))
       (and_from _ _ (enough x.frame.level refl)
       (and_from _ _ (entries_pass x.frame.level) (le-leb (costs (entries_of x.frame.level x)) 436 (entries_fit x.frame.level))))
@@ -141,7 +141,7 @@ module _ (rank : Key → ℕ) (top p : ℕ) (x : Image Key Value) (h : Shaped ra
       (ap {B = Option (List (Key × ℕ) × List (Key × Value))} (λ (y : List (Key × ℕ)). Some (y, x.pairs)) (sym (h.leaf_kids e)))
   entries_back (suc l) e =
       opt-some _ x.frame.kids _ _ (kids_back x.frame.kids)
-      (ap {B = Option (List (Key × ℕ) × List (Key × Value))} (λ (y : List (Key × Value)). Some (x.frame.kids, y)) (sym (h.branch-pairs l e)))
+      (ap {B = Option (List (Key × ℕ) × List (Key × Value))} (λ (y : List (Key × Value)). Some (x.frame.kids, y)) (sym (h.branch_pairs l e)))
 
   pub image_back : (n : ℕ) → image_in (content_of p n x) ≡ Some x
   unfolding image_in content_of

@@ -88,11 +88,11 @@ module _ (says : Says) (r : Ranked says) where
   module _ (p : ℕ) (x : Image Key Value) (h : Shaped r.rank r.top p x) where
     keys_pass : (l : ℕ) → x.frame.level ≡ l → are_keys says l (bound_of (upper x.frame)) x.frame.low.bytes (entries_of l x) ≡ true
     keys_pass zero e = leaf-keys x.frame.low (upper x.frame) x.pairs h.form.spans h.form.pairs_ascend
-    keys_pass (suc l) e = branch-keys l x.frame.low (upper x.frame) x.frame.kids h.form.spans h.form.kids_ascend (h.form.first-is l e)
+    keys_pass (suc l) e = branch-keys l x.frame.low (upper x.frame) x.frame.kids h.form.spans h.form.kids_ascend (h.form.first_is l e)
 
     pub has_order : (n : ℕ) → is_ordered says (content_of p n x) ≡ true
     unfolding is_ordered are_fences page.upper content_of
     has_order n =
-        and_from _ _ (between x.frame.low x.frame.high x.frame.foster h.form.spans h.form.foster-below)
+        and_from _ _ (between x.frame.low x.frame.high x.frame.foster h.form.spans h.form.foster_below)
         (ap (λ (u : Bound). are_keys says x.frame.level u x.frame.low.bytes (entries_of x.frame.level x)) (upper_is x.frame.high x.frame.foster)
         ∙ keys_pass x.frame.level refl)

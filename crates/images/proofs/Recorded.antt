@@ -15,15 +15,15 @@ use Rattle.tree.specs.Log.Change.{Format, Put, Remove, Foster, Adopt, Grow}
 use Rattle.images.specs.Keys.{Key, Value, key_of, value_of}
 use Rattle.images.specs.Records.{content_for, encode_rec, linked_as, rec_of, decode_rec}
 use Rattle.images.specs.Laws.{Spelt, RecordsReadBack, RecordsKeepTheirStamp, RecordsHaveOneImage}
-use Rattle.images.proofs.Strings.{key-length, value-length, opt-some, opt-parts, key_back, value_back, key_of_bytes, value_of_bytes}
+use Rattle.images.proofs.Strings.{key_length, value_length, opt-some, opt-parts, key_back, value_back, key_of_bytes, value_of_bytes}
 
 fits : (a b : ℕ) (c : Change Key Value) → a < 2 ^ 32 → b < 2 ^ 32 → Spelt c a b → Fits (content_for a b c)
 unfolding content_for
 fits a b Format ha hb s = tt
-fits a b (Put p k v) ha hb s = (s.0, ha, (s.1, key-length k), value-length v)
-fits a b (Remove p k) ha hb s = (s.0, ha, (s.1, key-length k))
-fits a b (Foster p o k) ha hb s = (s.0, ha, s.1, (s.2, key-length k))
-fits a b (Adopt p o k c) ha hb s = (s.0, ha, s.1, hb, s.2, (s.3, key-length k))
+fits a b (Put p k v) ha hb s = (s.0, ha, (s.1, key_length k), value_length v)
+fits a b (Remove p k) ha hb s = (s.0, ha, (s.1, key_length k))
+fits a b (Foster p o k) ha hb s = (s.0, ha, s.1, (s.2, key_length k))
+fits a b (Adopt p o k c) ha hb s = (s.0, ha, s.1, hb, s.2, (s.3, key_length k))
 fits a b (Grow o) ha hb s = (ha, s.0)
 
 content_back : (a b : ℕ) (c : Change Key Value) → Spelt c a b → rec_of (content_for a b c) ≡ Some (linked_as a b c)
@@ -44,10 +44,10 @@ at_own n c = ap {B = Option Content} (λ (t : Bool). cond t (Some c) None) (eq-e
 pub records_read_back : RecordsReadBack
 unfolding decode_rec encode_rec
 records_read_back n r h =
-    let c : Content = content_for r.prev r.prev-other r.change in
-    let f : Fits c = fits r.prev r.prev-other r.change h.prev h.prev-other h.spelt in
+    let c : Content = content_for r.prev r.prev_other r.change in
+    let f : Fits c = fits r.prev r.prev_other r.change h.prev h.prev_other h.spelt in
     let e : decode_at n (encode_record n c) ≡ Some c = ap (if_at n) (image_reads_back n c h.position f) ∙ at_own n c in
-    opt-some _ c _ _ e (content_back r.prev r.prev-other r.change h.spelt)
+    opt-some _ c _ _ e (content_back r.prev r.prev_other r.change h.spelt)
 
 stamped_again : (n : ℕ) (rest : List ℕ) → length rest ≡ 120 → stamped n (sealed (le4 n ++ rest)) ≡ sealed (le4 n ++ rest)
 unfolding stamped
@@ -68,19 +68,19 @@ raw-stamped n (grow a o) e = encode-stamped (raw_of n (grow a o)) e
 sized : (n a b : ℕ) (c : Change Key Value) → length (body (raw_of n (content_for a b c))) ≡ 124
 unfolding content_for
 sized n a b Format = body-length _ (omega arith) (omega arith)
-sized n a b (Put p k v) = body-length _ (key-length k) (value-length v)
-sized n a b (Remove p k) = body-length _ (key-length k) (omega arith)
-sized n a b (Foster p o k) = body-length _ (key-length k) (omega arith)
-sized n a b (Adopt p o k c) = body-length _ (key-length k) (omega arith)
+sized n a b (Put p k v) = body-length _ (key_length k) (value_length v)
+sized n a b (Remove p k) = body-length _ (key_length k) (omega arith)
+sized n a b (Foster p o k) = body-length _ (key_length k) (omega arith)
+sized n a b (Adopt p o k c) = body-length _ (key_length k) (omega arith)
 sized n a b (Grow o) = body-length _ (omega arith) (omega arith)
 
 pub records_keep_their_stamp : RecordsKeepTheirStamp
 unfolding encode_rec
-records_keep_their_stamp n r h = raw-stamped n (content_for r.prev r.prev-other r.change) (sized n r.prev r.prev-other r.change)
+records_keep_their_stamp n r h = raw-stamped n (content_for r.prev r.prev_other r.change) (sized n r.prev r.prev_other r.change)
 
 -- what a content is a record of has that content
 said : Rec Key Value → Content
-said r = content_for r.prev r.prev-other r.change
+said r = content_for r.prev r.prev_other r.change
 
 just : (q r : Rec Key Value) → ◌≡◌ {A = Option (Rec Key Value)} (Some q) (Some r) → said r ≡ said q
 just q r e = let z : q ≡ r = cc in ap said (sym z)

@@ -13,7 +13,7 @@ use Rattle.page.specs.Image.{entry_bytes, slots, heap, bound_field, header, page
 use Rattle.tree.specs.Tree.{Image}
 use Rattle.images.specs.Keys.{Key, Value, is_short}
 use Rattle.images.specs.Images.{bound_of, foster_of, leaves, branches, entries_of, content_of, encode_image}
-use Rattle.images.proofs.Strings.{key-length, value-length}
+use Rattle.images.proofs.Strings.{key_length, value_length}
 
 -- numbers of 32 bits; a record, so that antt reads the list off it
 record Words (xs : List ℕ) : Type 0 where
@@ -66,12 +66,12 @@ prefixed_words s h w = one (length s) (omega arith) w
 bound_words : (h : Option Key) → Words (bound_field (bound_of h))
 unfolding bound_field
 bound_words None = one 255 (omega arith) (zeros 16)
-bound_words (Some k) = field_words k.bytes (key-length k) (key_words k)
+bound_words (Some k) = field_words k.bytes (key_length k) (key_words k)
 
 foster_words : (f : Option (Key × ℕ)) → Words (field 16 (foster_key (foster_of f)))
 unfolding foster_key
 foster_words None = field_words [] (omega arith) none
-foster_words (Some f) = field_words f.0.bytes (key-length f.0) (key_words f.0)
+foster_words (Some f) = field_words f.0.bytes (key_length f.0) (key_words f.0)
 
 slots_words : (at : List ℕ) → Words (slots at)
 unfolding slots
@@ -82,16 +82,16 @@ leaves_words : (es : List (Key × Value)) (behind : List ℕ) → Words behind �
 unfolding heap leaves entry_bytes
 leaves_words [] behind w = w
 leaves_words (e ∷ es) behind w =
-    let k = key-length e.0 in
+    let k = key_length e.0 in
     leaves_words es _
     (both (both (prefixed_words e.0.bytes (omega arith) (key_words e.0))
-    (prefixed_words e.1.bytes (value-length e.1) (short_words 64 e.1.bytes e.1.short))) w)
+    (prefixed_words e.1.bytes (value_length e.1) (short_words 64 e.1.bytes e.1.short))) w)
 
 branches_words : (es : List (Key × ℕ)) (behind : List ℕ) → Words behind → Words (heap (branches es) behind)
 unfolding heap branches entry_bytes
 branches_words [] behind w = w
 branches_words (e ∷ es) behind w =
-    let k = key-length e.0 in
+    let k = key_length e.0 in
     branches_words es _ (both (both (prefixed_words e.0.bytes (omega arith) (key_words e.0)) (number e.1)) w)
 
 entries_words : (l : ℕ) (x : Image Key Value) → Words (heap (entries_of l x) [])
@@ -103,7 +103,7 @@ unfolding header content_of
 header_words p n start x h =
     both (number p) (both (number n) (one x.frame.level h (one 0 (omega arith) (both (half (length (entries_of x.frame.level x)))
     (both (number (foster_child (foster_of x.frame.foster))) (both (half start) (one 0 (omega arith) (one 0 (omega arith)
-    (both (field_words x.frame.low.bytes (key-length x.frame.low) (key_words x.frame.low)) (both (bound_words x.frame.high)
+    (both (field_words x.frame.low.bytes (key_length x.frame.low) (key_words x.frame.low)) (both (bound_words x.frame.high)
     (both (foster_words x.frame.foster) (one 0 (omega arith) none))))))))))))
 
 body_words : (p n : ℕ) (x : Image Key Value) → x.frame.level < 2 ^ 32 → Words (page_body (content_of p n x))

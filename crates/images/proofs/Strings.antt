@@ -22,11 +22,11 @@ short-length b n [] h = omega arith
 short-length b zero (c ∷ s) h = let z : ◌≡◌ {A = ℕ} 0 1 = cc in absurd (omega arith)
 short-length b (suc n) (c ∷ s) h = let t = short-length b n s (and_parts (ltb c b) (is_short b n s) h).1 in omega arith
 
-pub key-length : (k : Key) → length k.bytes ≤ 16
-key-length k = short-length 256 16 k.bytes k.short
+pub key_length : (k : Key) → length k.bytes ≤ 16
+key_length k = short-length 256 16 k.bytes k.short
 
-pub value-length : (v : Value) → length v.bytes ≤ 64
-value-length v = short-length 256 64 v.bytes v.short
+pub value_length : (v : Value) → length v.bytes ≤ 64
+value_length v = short-length 256 64 v.bytes v.short
 
 pub opt-some : {A B : Type 0} (o : Option A) (a : A) (f : A → Option B) (r : Option B) → o ≡ Some a → f a ≡ r → opt o f ≡ r
 opt-some o a f r e g = ap (λ y. opt y f) e ∙ g

@@ -35,14 +35,14 @@ pub record Child (p c : ℕ) : Type 0 where
 pub record Shaped (rank : Key → ℕ) (top p : ℕ) (x : Image Key Value) : Type 0 where
   pub level : x.frame.level < 2 ^ 32
   pub leaf_kids : x.frame.level ≡ 0 → x.frame.kids ≡ []
-  pub branch-pairs : (l : ℕ) → x.frame.level ≡ suc l → x.pairs ≡ []
+  pub branch_pairs : (l : ℕ) → x.frame.level ≡ suc l → x.pairs ≡ []
   pub named : All (λ (e : Key × Value). 0 < length e.0.bytes) x.pairs
   pub form : Form rank top x
-  pub foster-above : (f : Key × ℕ) → x.frame.foster ≡ Some f → rank x.frame.low < rank f.0
+  pub foster_above : (f : Key × ℕ) → x.frame.foster ≡ Some f → rank x.frame.low < rank f.0
   pub fosters : (f : Key × ℕ) → x.frame.foster ≡ Some f → Child p f.1
   pub kids : All (λ (e : Key × ℕ). Child p e.1) x.frame.kids
-  pub pairs-room : total pair_cost x.pairs ≤ 436
-  pub kids-room : total kid_cost x.frame.kids ≤ 436
+  pub pairs_room : total pair_cost x.pairs ≤ 436
+  pub kids_room : total kid_cost x.frame.kids ≤ 436
 
 -- a page that is written is read back, as its own and at its position
 abbrev pub PagesReadBack : Type 0
@@ -65,8 +65,8 @@ Spelt (Grow o) a b = (o < 2 ^ 32) × (b ≡ 0)
 pub record Recordable (n : ℕ) (r : Rec Key Value) : Type 0 where
   pub position : n < 2 ^ 32
   pub prev : r.prev < 2 ^ 32
-  pub prev-other : r.prev-other < 2 ^ 32
-  pub spelt : Spelt r.change r.prev r.prev-other
+  pub prev_other : r.prev_other < 2 ^ 32
+  pub spelt : Spelt r.change r.prev r.prev_other
 
 abbrev pub RecordsReadBack : Type 0
 RecordsReadBack = (n : ℕ) (r : Rec Key Value) → Recordable n r → decode_rec n (encode_rec n r) ≡ Some r

@@ -17,10 +17,10 @@ content_for a b (Grow o) = grow a o
 
 -- a record's bytes at position n
 unfoldable pub encode_rec : ℕ → Rec Key Value → List ℕ
-encode_rec n r = encode_record n (content_for r.prev r.prev-other r.change)
+encode_rec n r = encode_record n (content_for r.prev r.prev_other r.change)
 
 abbrev pub linked_as : ℕ → ℕ → Change Key Value → Rec Key Value
-linked_as a b c = record { change = c; prev = a; prev-other = b }
+linked_as a b c = record { change = c; prev = a; prev_other = b }
 
 -- the record that a content is, if its key and value have their lengths
 unfoldable pub rec_of : Content → Option (Rec Key Value)
@@ -44,12 +44,12 @@ names_well n r = named r.change
     named (Put p k v) = nat_lt r.prev n
     named (Remove p k) = nat_lt r.prev n
     named (Foster p o d) = nat_lt r.prev n && (not (p == o) && not (o == 0))
-    named (Adopt p o k c) = (nat_lt r.prev n && nat_lt r.prev-other n) && ((not (p == o) && not (p == c)) && (not (o == c) && (not (o == 0) && not (c == 0))))
+    named (Adopt p o k c) = (nat_lt r.prev n && nat_lt r.prev_other n) && ((not (p == o) && not (p == c)) && (not (o == c) && (not (o == 0) && not (c == 0))))
     named (Grow o) = nat_lt r.prev n && not (o == 0)
 
 -- a record that misfits at its position n whichever page is asked for: it leaves out all pages but 0, and for that names itself as previous
 unfoldable pub misfit : ℕ → Rec Key Value
-misfit n = record { change = Remove 0 empty_key; prev = n; prev-other = 0 }
+misfit n = record { change = Remove 0 empty_key; prev = n; prev_other = 0 }
 
 unfoldable pub or_misfit : ℕ → Option (Rec Key Value) → Rec Key Value
 or_misfit n None = misfit n

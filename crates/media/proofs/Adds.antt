@@ -150,7 +150,7 @@ module _ (says : Says) (r : Ranked says) where
               room = subst (λ t. (p : ℕ) → Room (t.page p)) (sym made_more) step.room;
               intact = λ p. subst₂ (λ t l. Intact says r t p (stored_page says p (get_or l p unreadable))) (sym made_more) (sym pages) (left p);
               fits = omega (arith, below, length-append old (bs ∷ []));
-              is-sized = λ _. same-sized w e cap count ∙ siz;
+              is_sized = λ _. same-sized w e cap count ∙ siz;
               enough = omega arith;
               grown = subst (λ k. GrownLog says (min 256 k) (old ++ (bs ∷ []))) (sym count) grown_too;
             }

@@ -24,7 +24,7 @@ recorded-taken rank top born (Put p k v) f h = h.0
 recorded-taken rank top born (Remove p k) f h = h.0
 recorded-taken rank top born (Foster p o d) f h = (h.0, h.1)
 recorded-taken rank top born (Adopt p o k c) f h =
-    (h.0, h.1.is-born, h.2.is-born, λ e. h.1.other (sym e), λ e. h.2.other (sym e), λ e. h.3.other (sym e))
+    (h.0, h.1.is_born, h.2.is_born, λ e. h.1.other (sym e), λ e. h.2.other (sym e), λ e. h.3.other (sym e))
 recorded-taken rank top born (Grow o) f h = (h.1, h.0)
 
 module _ (says : Says) where

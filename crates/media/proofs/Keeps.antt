@@ -64,7 +64,7 @@ module _ (says : Says) (r : Ranked says) where
     room = m.room;
     intact = intact;
     fits = omega (arith, m.fits);
-    is-sized = λ n. same-sized w e cap count ∙ m.is-sized n;
+    is_sized = λ n. same-sized w e cap count ∙ m.is_sized n;
     enough = omega (arith, m.enough);
     grown = subst (λ n. GrownLog says (min 256 n) added) (sym count) m.grown;
   }
@@ -80,7 +80,7 @@ module _ (says : Says) (r : Ranked says) where
     room = λ p. record { pairs = omega arith; kids = omega arith };
     intact = λ p. inr (λ x e l. none-some x (sym (torn_pages_fail says p (page_at w.disk p) (new p)) ∙ e));
     fits = omega arith;
-    is-sized = λ n. absurd (n refl);
+    is_sized = λ n. absurd (n refl);
     enough = omega arith;
     grown = tt;
   }
@@ -94,10 +94,10 @@ module _ (says : Says) (r : Ranked says) where
   pub harm_opened : (added : Added) (w e : World) → Opened says r added w → Harm says added w e → Opened says r added e
   harm_opened added w e o h = record {
     some = o.some;
-    disk-on = h.disk_power ∙ o.disk-on;
-    journal-on = h.journal_power ∙ o.journal-on;
-    born-is = ap (λ (ix : List ℕ). length ix) h.index ∙ o.born-is;
-    newest-is = λ p. ap (λ (ix : List ℕ). get_or ix p 0) h.index ∙ o.newest-is p;
+    disk_on = h.disk_power ∙ o.disk_on;
+    journal_on = h.journal_power ∙ o.journal_on;
+    born_is = ap (λ (ix : List ℕ). length ix) h.index ∙ o.born_is;
+    newest_is = λ p. ap (λ (ix : List ℕ). get_or ix p 0) h.index ∙ o.newest_is p;
   }
 
   -- a born page's image can be written
@@ -107,18 +107,18 @@ module _ (says : Says) (r : Ranked says) where
       let x = page_writable r.rank r.top empty_key r.ranking s well.sound tidy p b in
       let low = well.sound.shape.tallest p b in
       let high = tidy.level well.sound.shape.any in
-      let child : (c : ℕ) → Pointed s.born p c → Child p c = λ c h. record { inner = h.inner; other = h.other; word = omega (arith, h.is-born) } in
+      let child : (c : ℕ) → Pointed s.born p c → Child p c = λ c h. record { inner = h.inner; other = h.other; word = omega (arith, h.is_born) } in
       record {
         level = omega arith;
         leaf_kids = x.neat.leaf_kids;
-        branch-pairs = x.neat.branch-pairs;
+        branch_pairs = x.neat.branch_pairs;
         named = all_more (λ (e : Key × Value) h. named-length says r e.0 h) (s.page p).pairs x.neat.named;
         form = x.form;
-        foster-above = x.foster-above;
+        foster_above = x.foster_above;
         fosters = λ f e. child f.1 (x.fosters f e);
         kids = all_more (λ (e : Key × ℕ) h. child e.1 h) (s.page p).frame.kids x.kids;
-        pairs-room = (room p).pairs;
-        kids-room = (room p).kids;
+        pairs_room = (room p).pairs;
+        kids_room = (room p).kids;
       }
 
   -- a log that has made a page is not empty
@@ -134,7 +134,7 @@ module _ (says : Says) (r : Ranked says) where
       ≡ Some (record { lsn = (made says r added).newest p; image = (made says r added).page p })
   read_back added w m p b =
       let t = born-stands added w m p b in
-      let cap = sized-capacity w (m.is-sized t.0) in
+      let cap = sized-capacity w (m.is_sized t.0) in
       let few : (made says r added).born ≤ 256 = omega (arith, m.enough) in
       pages_read_back says r p ((made says r added).newest p) ((made says r added).page p) (omega arith)
       (omega (arith, made-within says r added p, made-count says r added, m.fits)) (page_shaped (made says r added) t.1 m.tidy m.room few p b)

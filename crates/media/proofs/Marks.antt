@@ -5,12 +5,12 @@ use Rattle.wal.specs.Journal.{entry}
 use Rattle.tree.specs.Log.{Change, Logged}
 use Rattle.tree.specs.Log.Change.{Format, Put, Remove, Foster, Adopt, Grow}
 use Rattle.tree.specs.Plan.{linked}
-use Rattle.tree.proofs.Runs.{is-put, is-remove}
+use Rattle.tree.proofs.Runs.{is_put, is_remove}
 use Rattle.images.specs.Keys.{Key, Value}
 use Rattle.images.specs.Records.{content_for, encode_rec}
 use Rattle.model.specs.Promises.{is_kind}
 
-pub kind-put : (n : ℕ) (s : Logged Key Value) (c : Change Key Value) → is_kind 2 (entry (encode_rec n (linked s c))) ≡ is-put c
+pub kind-put : (n : ℕ) (s : Logged Key Value) (c : Change Key Value) → is_kind 2 (entry (encode_rec n (linked s c))) ≡ is_put c
 unfolding encode_rec content_for encode body
 kind-put n s Format = refl
 kind-put n s (Put p k v) = refl
@@ -19,7 +19,7 @@ kind-put n s (Foster p o d) = refl
 kind-put n s (Adopt p o k c) = refl
 kind-put n s (Grow o) = refl
 
-pub kind-remove : (n : ℕ) (s : Logged Key Value) (c : Change Key Value) → is_kind 3 (entry (encode_rec n (linked s c))) ≡ is-remove c
+pub kind-remove : (n : ℕ) (s : Logged Key Value) (c : Change Key Value) → is_kind 3 (entry (encode_rec n (linked s c))) ≡ is_remove c
 unfolding encode_rec content_for encode body
 kind-remove n s Format = refl
 kind-remove n s (Put p k v) = refl

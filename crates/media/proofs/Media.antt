@@ -9,7 +9,7 @@ use Rattle.tree.specs.Log.{Change, Logged, run, start, tree, source, Linked, May
 use Rattle.tree.specs.Log.Source.{Earlier}
 use Rattle.tree.specs.Halves.{total}
 use Rattle.tree.specs.Plan.{linked, changes, Begins}
-use Rattle.tree.proofs.Runs.{is-put, is-remove, any}
+use Rattle.tree.proofs.Runs.{is_put, is_remove, any}
 use Rattle.tree.specs.Suits.{suits}
 use Rattle.tree.specs.Worlds.{Stored, Fails}
 use Rattle.images.specs.Keys.{Key, Value, empty_key, keyed, pair_cost, kid_cost}
@@ -58,17 +58,17 @@ module _ (says : Says) (r : Ranked says) where
     pub room : (p : ℕ) → Room ((made added).page p)
     pub intact : (p : ℕ) → Intact (made added) p (stored_page says p (page_at w.disk p))
     pub fits : length added ≤ w.journal.capacity
-    pub is-sized : (added ≡ [] → ⊥) → sized w ≡ true
+    pub is_sized : (added ≡ [] → ⊥) → sized w ≡ true
     pub enough : (made added).born ≤ usable w
     pub grown : GrownLog says (usable w) added
 
   -- an open store's index is that of its log, and power is on
   pub record Opened (added : Added) (w : World) : Type 0 where
     pub some : added ≡ [] → ⊥
-    pub disk-on : w.disk.on ≡ true
-    pub journal-on : w.journal.on ≡ true
-    pub born-is : length w.index ≡ (made added).born
-    pub newest-is : (p : ℕ) → newest w.index p ≡ (made added).newest p
+    pub disk_on : w.disk.on ≡ true
+    pub journal_on : w.journal.on ≡ true
+    pub born_is : length w.index ≡ (made added).born
+    pub newest_is : (p : ℕ) → newest w.index p ≡ (made added).newest p
 
   -- a change that the store may make, and that suits what it changes
   pub record AptChange (s : Logged Key Value) (c : Change Key Value) : Type 0 where
@@ -98,10 +98,10 @@ module _ (says : Says) (r : Ranked says) where
   pub record Came (added : Added) (w : World) (cs : List (Change Key Value)) (e : World) : Type 0 where
     pub log : Added
     pub media : Media log e
-    pub makes-all : made log ≡ changes (keyed says) empty_key (made added) cs
+    pub makes_all : made log ≡ changes (keyed says) empty_key (made added) cs
     pub log_is : log ≡ added ++ map bytes_in (new_records w e)
-    pub puts : reaches 2 (new_records w e) ≡ any is-put cs
-    pub removes : reaches 3 (new_records w e) ≡ any is-remove cs
+    pub puts : reaches 2 (new_records w e) ≡ any is_put cs
+    pub removes : reaches 3 (new_records w e) ≡ any is_remove cs
 
   -- power outlasted such actions: they are all done
   pub record Finished {X : Type 0} (added : Added) (w : World) (cs : List (Change Key Value)) (last : Added) (end : World) (x res : Result X Refusal) (e : World) : Type 0 where

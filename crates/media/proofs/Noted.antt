@@ -39,12 +39,12 @@ module _ (says : Says) (r : Ranked says) where
 
   module _ (s : Logged Key Value) (few : s.born ≤ 256) (within : (p : ℕ) → s.newest p ≤ s.count) where
     is-spelt : (c : Change Key Value) → Recorded r.rank r.top empty_key s.born c
-        → Spelt (linked s c).change (linked s c).prev (linked s c).prev-other
+        → Spelt (linked s c).change (linked s c).prev (linked s c).prev_other
     is-spelt Format h = (refl, refl)
     is-spelt (Put p k v) h = (omega (arith, h.0), named-length k h.1, refl)
     is-spelt (Remove p k) h = (omega (arith, h.0), named-length k h.1, refl)
     is-spelt (Foster p o d) h = (omega (arith, h.0), omega (arith, h.1), named-length d h.2, refl)
-    is-spelt (Adopt p o k c) h = (omega (arith, h.0), omega (arith, h.1.is-born), omega (arith, h.2.is-born), named-length k h.4)
+    is-spelt (Adopt p o k c) h = (omega (arith, h.0), omega (arith, h.1.is_born), omega (arith, h.2.is_born), named-length k h.4)
     is-spelt (Grow o) h = (omega (arith, h.0), refl)
 
     prev-within : (c : Change Key Value) → (linked s c).prev ≤ s.count
@@ -55,7 +55,7 @@ module _ (says : Says) (r : Ranked says) where
     prev-within (Adopt p o k c) = within p
     prev-within (Grow o) = within 0
 
-    other-within : (c : Change Key Value) → (linked s c).prev-other ≤ s.count
+    other-within : (c : Change Key Value) → (linked s c).prev_other ≤ s.count
     other-within Format = omega arith
     other-within (Put p k v) = omega arith
     other-within (Remove p k) = omega arith
@@ -68,7 +68,7 @@ module _ (says : Says) (r : Ranked says) where
     is-recordable c h n small e = record {
       position = small;
       prev = omega (arith, prev-within c);
-      prev-other = omega (arith, other-within c);
+      prev_other = omega (arith, other-within c);
       spelt = is-spelt c h;
     }
 

@@ -9,7 +9,7 @@ use Rattle.wal.specs.Appends as log
 use Rattle.tree.specs.Log.{Change}
 use Rattle.tree.specs.Plan.{linked, changed, changes, Begins}
 use Rattle.tree.specs.Plan.Begins.{nothing, more}
-use Rattle.tree.proofs.Runs.{is-put, is-remove, any}
+use Rattle.tree.proofs.Runs.{is_put, is_remove, any}
 use Rattle.images.specs.Keys.{Key, Value, empty_key, keyed}
 use Rattle.images.specs.Records.{encode_rec}
 use Rattle.images.specs.Laws.{Ranked}
@@ -64,17 +64,17 @@ module _ (says : Says) (r : Ranked says) where
     news : List Entry
     row_is : e.journal.records ≡ rows ++ news
     media : Media says r now e
-    makes-all : made says r now ≡ changes (keyed says) empty_key (made says r added) cs
+    makes_all : made says r now ≡ changes (keyed says) empty_key (made says r added) cs
     log_is : now ≡ added ++ map bytes_in news
-    puts : reaches 2 news ≡ any is-put cs
-    removes : reaches 3 news ≡ any is-remove cs
+    puts : reaches 2 news ≡ any is_put cs
+    removes : reaches 3 news ≡ any is_remove cs
 
   none-longer : (added : Added) (rows : List Entry) (e : World) → Media says r added e → e.journal.records ≡ rows → Longer added rows [] e added
   none-longer added rows e m i = record {
     news = [];
     row_is = i ∙ sym (append-nil rows);
     media = m;
-    makes-all = refl;
+    makes_all = refl;
     log_is = sym (append-nil added);
     puts = refl;
     removes = refl;
@@ -87,7 +87,7 @@ module _ (says : Says) (r : Ranked says) where
     news = entry bs ∷ g.news;
     row_is = g.row_is ∙ append_assoc rows (entry bs ∷ []) g.news;
     media = g.media;
-    makes-all = g.makes-all ∙ ap (λ s. changes (keyed says) empty_key s cs) step;
+    makes_all = g.makes_all ∙ ap (λ s. changes (keyed says) empty_key s cs) step;
     log_is = g.log_is ∙ append_assoc added (bs ∷ []) (map bytes_in g.news);
     puts = ap₂ (λ (x y : Bool). cond x true y) (ap (λ b. is_kind 2 (entry b)) is ∙ kind-put (suc (length added)) (made says r added) c) g.puts;
     removes = ap₂ (λ (x y : Bool). cond x true y) (ap (λ b. is_kind 3 (entry b)) is ∙ kind-remove (suc (length added)) (made says r added) c) g.removes;
@@ -99,7 +99,7 @@ module _ (says : Says) (r : Ranked says) where
       record {
         log = now;
         media = g.media;
-        makes-all = g.makes-all;
+        makes_all = g.makes_all;
         log_is = g.log_is ∙ ap (λ l. added ++ map bytes_in l) (sym i);
         puts = ap (reaches 2) i ∙ g.puts;
         removes = ap (reaches 3) i ∙ g.removes;
@@ -133,8 +133,8 @@ module _ (says : Says) (r : Ranked says) where
       some = [];
       first = nothing;
       now = added;
-      left = none-longer added w.journal.records e (subst (Media says r added) (sym k.leaves) (keeps k.in-append k.in_write))
-          (records_of (acted k.in-append k.in_write (stores p bs) w) k.leaves);
+      left = none-longer added w.journal.records e (subst (Media says r added) (sym k.leaves) (keeps k.in_append k.in_write))
+          (records_of (acted k.in_append k.in_write (stores p bs) w) k.leaves);
     }
 
     module _ (added : Added) (w : World) (m : Media says r added w) (c : Change Key Value) (ok : AptChange says r (made says r added) c) (bs : List ℕ)
@@ -147,7 +147,7 @@ module _ (says : Says) (r : Ranked says) where
 
       -- power fails in the append of a record
       cut-add : (ps : List ℕ) → Cut (adds ps bs) w res e → Stopped added w.journal.records (c ∷ cs) res e
-      cut-add ps k = elim (add-ends says r added w m c ok bs is on free siz enough k.in-append k.in_write ps) [
+      cut-add ps k = elim (add-ends says r added w m c ok bs is on free siz enough k.in_append k.in_write ps) [
         | inl a ↦ record {
           answers = k.answers;
           some = c ∷ [];
@@ -155,7 +155,7 @@ module _ (says : Says) (r : Ranked says) where
           now = added ++ (bs ∷ []);
           left = one_more [] (w.journal.records ++ (entry bs ∷ [])) (added ++ (bs ∷ [])) refl
               (none-longer (added ++ (bs ∷ [])) (w.journal.records ++ (entry bs ∷ [])) e (subst (Media says r (added ++ (bs ∷ []))) (sym k.leaves) a.media)
-              (records_of (acted k.in-append k.in_write (adds ps bs) w) k.leaves ∙ a.rows));
+              (records_of (acted k.in_append k.in_write (adds ps bs) w) k.leaves ∙ a.rows));
         }
         | inr a ↦ record {
           answers = k.answers;
@@ -163,7 +163,7 @@ module _ (says : Says) (r : Ranked says) where
           first = nothing;
           now = added;
           left = none-longer added w.journal.records e (subst (Media says r added) (sym k.leaves) a.media)
-              (records_of (acted k.in-append k.in_write (adds ps bs) w) k.leaves ∙ a.rows);
+              (records_of (acted k.in_append k.in_write (adds ps bs) w) k.leaves ∙ a.rows);
         }
       ]
 

@@ -15,11 +15,11 @@ use Rattle.tree.proofs.Kept.{kept-sound}
 use Rattle.tree.proofs.Fit.{changes-well}
 use Rattle.images.specs.Keys.{Key, Value, empty_key, keyed, pair_cost, kid_cost}
 use Rattle.images.specs.Laws.{Ranked}
-use Rattle.images.proofs.Strings.{key-length}
+use Rattle.images.proofs.Strings.{key_length}
 use Rattle.media.proofs.Media.{Room, Standing, AptChange}
 
 pub kid_cheap : (k : Key) (c : ℕ) → kid_cost (k, c) ≤ 23
-kid_cheap k c = omega (arith, key-length k)
+kid_cheap k c = omega (arith, key_length k)
 
 module _ (says : Says) (r : Ranked says) where
   abbrev pub cmp : Key → Key → Ordering
@@ -77,8 +77,8 @@ module _ (says : Says) (r : Ranked says) where
   -- nothing but a format may be made to an empty log
   pub first-formats : (c : Change Key Value) → AptChange says r new c → c ≡ Format
   first-formats Format apt = refl
-  first-formats (Put p k v) apt = absurd (omega (arith, apt.may.is-born))
-  first-formats (Remove p k) apt = absurd (omega (arith, apt.may.is-born))
-  first-formats (Foster p o d) apt = absurd (omega (arith, apt.may.1.is-born))
-  first-formats (Adopt p o k c) apt = absurd (omega (arith, apt.may.is-born))
+  first-formats (Put p k v) apt = absurd (omega (arith, apt.may.is_born))
+  first-formats (Remove p k) apt = absurd (omega (arith, apt.may.is_born))
+  first-formats (Foster p o d) apt = absurd (omega (arith, apt.may.1.is_born))
+  first-formats (Adopt p o k c) apt = absurd (omega (arith, apt.may.is_born))
   first-formats (Grow o) apt = let t = apt.suit 0 0 0 refl in let z : ◌≡◌ {A = ℕ} 0 1 = cc in absurd (omega arith)

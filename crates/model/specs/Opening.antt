@@ -29,7 +29,7 @@ abbrev pub taken : ℕ → ℕ → List ℕ → Option (Rec Key Value) → (List
 taken usable n ix None go = Err n
 taken usable n ix (Some r) go =
     let on = go (raised n (changed_pages r.change) ix) in
-    cond (follows usable ix r.prev r.prev-other r.change) on (Err n)
+    cond (follows usable ix r.prev r.prev_other r.change) on (Err n)
 
 -- from position n on
 unfoldable pub scanning : ℕ → ℕ → List Entry → List ℕ → Result (List ℕ) ℕ

@@ -23,9 +23,9 @@ after w p k = onward p.actions w p.answer k
 
 -- power failed in an action, and left what its fate says
 pub record Cut {X : Type 0} (a : Action) (w : World) (r : Result X Refusal) (e : World) : Type 0 where
-  pub in-append : log.Fate
+  pub in_append : log.Fate
   pub in_write : page.Fate
-  pub leaves : e ≡ acted in-append in_write a w
+  pub leaves : e ≡ acted in_append in_write a w
   pub off : powered a e ≡ false
   pub answers : r ≡ Err PowerFailed
 

@@ -77,7 +77,7 @@ GetAnswersTheLastStandingPut =
 -- a next gives the least present key above its own, with its value, or there is none
 pub record LeastAbove (says : Says) (h : History) (key above value : List ℕ) : Type 0 where
   pub higher : says key above ≡ Less
-  pub is-present : present h above ≡ Some value
+  pub is_present : present h above ≡ Some value
   pub none_between : (i : List ℕ) → is_short 256 16 i ≡ true → says key i ≡ Less → says i above ≡ Less → present h i ≡ None
 
 abbrev pub NextGivesTheLeastPresentKeyAbove : Type 0
@@ -89,8 +89,8 @@ NextGivesTheLeastPresentKeyAbove =
 
 -- a get that has no ground for a refusal of its input
 pub record WellFormed (key : List ℕ) (k : Key) (room work : ℕ) (w : World) : Type 0 where
-  pub key-is : key_of key ≡ Some k
-  pub room-is : 64 ≤ room
+  pub key_is : key_of key ≡ Some k
+  pub room_is : 64 ≤ room
   pub work_is : w.journal.capacity ≤ work
 
 abbrev pub answer_of : Option (List ℕ) → Result Reply Refusal
@@ -118,9 +118,9 @@ OpenRefusesExactlyALogWithAGap =
 -- an open store's index has the newest position of every born page, by the records as they were added, and no others
 pub record IndexOf (says : Says) (added : Added) (w : World) : Type 0 where
   pub few : length w.index ≤ 256
-  pub born-is : length w.index ≡ (meant says added w).born
+  pub born_is : length w.index ≡ (meant says added w).born
   pub at_least_one : (p : ℕ) → p < length w.index → 1 ≤ newest w.index p
-  pub newest-is : (p : ℕ) → newest w.index p ≡ (meant says added w).newest p
+  pub newest_is : (p : ℕ) → newest w.index p ≡ (meant says added w).newest p
 
 abbrev pub OpenIndexIsThatOfTheLog : Type 0
 OpenIndexIsThatOfTheLog =

@@ -2,7 +2,7 @@
 use Rattle.std.specs.Prelude.{ℕ, zero, suc, cond, List, [], ◌∷◌, Some, None, Ok, Err, Option, nat_lt}
 use Rattle.order.specs.Lawful.{Says}
 use Rattle.tree.specs.Tree.{Image}
-use Rattle.tree.specs.Walk.{Visit, visit, Due, check, onward_due, due-root}
+use Rattle.tree.specs.Walk.{Visit, visit, Due, check, onward_due, due_root}
 use Rattle.images.specs.Keys.{Key, Value, empty_key, keyed}
 use Rattle.model.specs.declared.refusal.Refusal.TheVariants.{WrongPage}
 use Rattle.model.specs.Worlds.{World, born}
@@ -42,4 +42,4 @@ going says k (suc n) w p d =
 
 -- no page is met twice, but for one that then fails its comparison: one page more than are born is enough
 unfoldable pub way : Says → World → Key → Plan Route
-way says w k = going says k (suc (born w)) w 0 (due-root empty_key)
+way says w k = going says k (suc (born w)) w 0 (due_root empty_key)

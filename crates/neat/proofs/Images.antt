@@ -3,7 +3,7 @@ use Rattle.std.proofs.Common.{◌≡◌, ℕ, suc, ◌<◌, List, [], ◌∷◌,
 use Rattle.std.proofs.Math.Dec.{compare_is_eq}
 use Rattle.ranks.specs.Lists.{All}
 use Rattle.tree.specs.Rows.{by, is_less, set, without, upto, from}
-use Rattle.tree.specs.Tree.{Image, putting, removing, lower-image, upper-image, gaining-image, ceding-image, risen-image}
+use Rattle.tree.specs.Tree.{Image, putting, removing, lower_image, upper_image, gaining_image, ceding_image, risen_image}
 use Rattle.tree.specs.Log.{blank}
 use Rattle.neat.specs.Neat.{Neat}
 use Rattle.std.proofs.lemmas.Bool.{cond_both}
@@ -38,37 +38,37 @@ module _ {K A : Type 0} (rank : K → ℕ) (P : K × A → Type 0) where
 
 module _ {K V : Type 0} (rank : K → ℕ) (top : ℕ) (least : K) where
   pub blank-neat : Neat rank top least (blank {V = V} (by rank) least)
-  blank-neat = record { leaf_kids = λ e. refl; branch-pairs = λ l e. refl; named = tt }
+  blank-neat = record { leaf_kids = λ e. refl; branch_pairs = λ l e. refl; named = tt }
 
   pub put-neat : (x : Image K V) (k : K) (v : V) → x.frame.level ≡ 0 → rank least < rank k → Neat rank top least x
       → Neat rank top least (putting (by rank) least k v x)
   put-neat x k v z h n = record
-      { leaf_kids = n.leaf_kids; branch-pairs = λ l e. absurd (omega arith); named = all_set rank _ k v x.pairs h n.named }
+      { leaf_kids = n.leaf_kids; branch_pairs = λ l e. absurd (omega arith); named = all_set rank _ k v x.pairs h n.named }
 
   pub remove-neat : (x : Image K V) (k : K) → Neat rank top least x → Neat rank top least (removing (by rank) least k x)
   remove-neat x k n = record
-      { leaf_kids = n.leaf_kids; branch-pairs = λ l e. ap (without (by rank) k) (n.branch-pairs l e); named = all_without rank _ k x.pairs n.named }
+      { leaf_kids = n.leaf_kids; branch_pairs = λ l e. ap (without (by rank) k) (n.branch_pairs l e); named = all_without rank _ k x.pairs n.named }
 
-  pub lower-neat : (x : Image K V) (d : K) (q : ℕ) → Neat rank top least x → Neat rank top least (lower-image (by rank) least d q x)
+  pub lower-neat : (x : Image K V) (d : K) (q : ℕ) → Neat rank top least x → Neat rank top least (lower_image (by rank) least d q x)
   lower-neat x d q n = record {
     leaf_kids = λ e. ap (upto (by rank) d) (n.leaf_kids e);
-    branch-pairs = λ l e. ap (upto (by rank) d) (n.branch-pairs l e);
+    branch_pairs = λ l e. ap (upto (by rank) d) (n.branch_pairs l e);
     named = all-upto rank _ d x.pairs n.named;
   }
 
-  pub upper-neat : (x : Image K V) (d : K) → Neat rank top least x → Neat rank top least (upper-image (by rank) least d x)
+  pub upper-neat : (x : Image K V) (d : K) → Neat rank top least x → Neat rank top least (upper_image (by rank) least d x)
   upper-neat x d n = record {
     leaf_kids = λ e. ap (from (by rank) d) (n.leaf_kids e);
-    branch-pairs = λ l e. ap (from (by rank) d) (n.branch-pairs l e);
+    branch_pairs = λ l e. ap (from (by rank) d) (n.branch_pairs l e);
     named = all_from rank _ d x.pairs n.named;
   }
 
   pub gain_neat : (x : Image K V) (k : K) (c l : ℕ) → x.frame.level ≡ suc l → Neat rank top least x
-      → Neat rank top least (gaining-image (by rank) least k c x)
-  gain_neat x k c l s n = record { leaf_kids = λ e. absurd (omega arith); branch-pairs = n.branch-pairs; named = n.named }
+      → Neat rank top least (gaining_image (by rank) least k c x)
+  gain_neat x k c l s n = record { leaf_kids = λ e. absurd (omega arith); branch_pairs = n.branch_pairs; named = n.named }
 
-  pub cede_neat : (x : Image K V) (k : K) → Neat rank top least x → Neat rank top least (ceding-image (by rank) least k x)
-  cede_neat x k n = record { leaf_kids = n.leaf_kids; branch-pairs = n.branch-pairs; named = n.named }
+  pub cede_neat : (x : Image K V) (k : K) → Neat rank top least x → Neat rank top least (ceding_image (by rank) least k x)
+  cede_neat x k n = record { leaf_kids = n.leaf_kids; branch_pairs = n.branch_pairs; named = n.named }
 
-  pub risen-neat : (x : Image K V) (q : ℕ) → Neat rank top least (risen-image (by rank) least q x)
-  risen-neat x q = record { leaf_kids = λ e. absurd (omega arith); branch-pairs = λ l e. refl; named = tt }
+  pub risen-neat : (x : Image K V) (q : ℕ) → Neat rank top least (risen_image (by rank) least q x)
+  risen-neat x q = record { leaf_kids = λ e. absurd (omega arith); branch_pairs = λ l e. refl; named = tt }

@@ -10,20 +10,20 @@ module _ {K V : Type 0} (rank : K → ℕ) (top : ℕ) (least : K) (ranked : Ran
   -- of an adoption: a branch, its child and that one's foster child are three pages
   pub change-recorded : (c : Change K V) → May rank top least c s → NamesKey rank top least c → Recorded rank top least s.born c
   change-recorded Format may named = tt
-  change-recorded (Put p k v) may named = (may.is-born, named)
-  change-recorded (Remove p k) may named = (may.is-born, named)
-  change-recorded (Foster p o d) may named = (may.1.is-born, may.0, omega (arith, may.1.above, ranked.from-least (s.page p).frame.low))
+  change-recorded (Put p k v) may named = (may.is_born, named)
+  change-recorded (Remove p k) may named = (may.is_born, named)
+  change-recorded (Foster p o d) may named = (may.1.is_born, may.0, omega (arith, may.1.above, ranked.from_least (s.page p).frame.low))
   change-recorded (Adopt p o k c) may named =
       let child : Pointed s.born p o = subst (Pointed s.born p) may.leads
-      (child_pointed rank top least ranked s.born (frames (tree s)) sound.shape p may.is-born may.below may.key may.level may.holds) in
+      (child_pointed rank top least ranked s.born (frames (tree s)) sound.shape p may.is_born may.below may.key may.level may.holds) in
       let level : (s.page o).frame.level ≡ may.below = subst (λ q. (s.page q).frame.level ≡ may.below) may.leads
-      (sound.shape.children p may.is-born may.below may.key may.level may.holds).level-is in
-      let foster = sound.shape.fosters o child.is-born (k, c) may.foster in
-      let over = foster-over rank top least ranked s.born (frames (tree s)) sound.shape o child.is-born (k, c) may.foster in (
-        may.is-born,
+      (sound.shape.children p may.is_born may.below may.key may.level may.holds).level_is in
+      let foster = sound.shape.fosters o child.is_born (k, c) may.foster in
+      let over = foster-over rank top least ranked s.born (frames (tree s)) sound.shape o child.is_born (k, c) may.foster in (
+        may.is_born,
         child,
-        record { inner = foster.inner; other = λ i. omega (arith, level, may.level, foster.level-is, ap (λ q. (s.page q).frame.level) i); is-born = foster.is-born },
-        foster_pointed rank top least ranked s.born (frames (tree s)) sound.shape o child.is-born (k, c) may.foster,
-        omega (arith, over, ranked.from-least (s.page o).frame.low),
+        record { inner = foster.inner; other = λ i. omega (arith, level, may.level, foster.level_is, ap (λ q. (s.page q).frame.level) i); is_born = foster.is_born },
+        foster_pointed rank top least ranked s.born (frames (tree s)) sound.shape o child.is_born (k, c) may.foster,
+        omega (arith, over, ranked.from_least (s.page o).frame.low),
       )
   change-recorded (Grow o) may named = (may, sound.shape.any)

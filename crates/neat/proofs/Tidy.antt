@@ -1,7 +1,7 @@
 -- A change that the store may make leaves a log's pages tidy.
 use Rattle.std.proofs.Common.{◌≡◌, ℕ, suc, ◌<◌, true, cond, eqb, sym, ap, subst, arith}
 use Rattle.tree.specs.Rows.{by}
-use Rattle.tree.specs.Tree.{Sound, lower-image, upper-image, gaining-image, ceding-image, risen-image}
+use Rattle.tree.specs.Tree.{Sound, lower_image, upper_image, gaining_image, ceding_image, risen_image}
 use Rattle.tree.specs.Log.{Change, Logged, Source, made, blank, tree, start, May}
 use Rattle.tree.specs.Log.Change.{Format, Put, Remove, Foster, Adopt, Grow}
 use Rattle.tree.specs.Log.Source.{Out, Fresh, Earlier}
@@ -38,22 +38,22 @@ module _ {K V : Type 0} (rank : K → ℕ) (top : ℕ) (least : K) (s : Logged K
       (λ _. tidy.pages p)
   pages-tidy sound (Foster q o d) may named p =
       let part : NeatAt (Foster q o d) p (Earlier q (s.newest q)) =
-      cond_both (eqb p o) (upper-image (by rank) least d (s.page q)) (lower-image (by rank) least d o (s.page q)) (Neat rank top least)
+      cond_both (eqb p o) (upper_image (by rank) least d (s.page q)) (lower_image (by rank) least d o (s.page q)) (Neat rank top least)
       (λ _. upper-neat rank top least (s.page q) d (tidy.pages q)) (λ _. lower-neat rank top least (s.page q) d o (tidy.pages q)) in
       cond_both (eqb p o) (Earlier q (s.newest q)) (cond (eqb p q) (Earlier q (s.newest q)) Out) (NeatAt (Foster q o d) p)
       (λ _. part)
       (λ _. cond_both (eqb p q) (Earlier q (s.newest q)) Out (NeatAt (Foster q o d) p) (λ _. part) (λ _. tidy.pages p))
   pages-tidy sound (Adopt q o k c) may named p =
       cond_both (eqb p o) (Earlier o (s.newest o)) (cond (eqb p q) (Earlier q (s.newest q)) Out) (NeatAt (Adopt q o k c) p)
-      (λ t. subst (λ b. Neat rank top least (cond b (ceding-image (by rank) least k (s.page o)) (gaining-image (by rank) least k c (s.page o)))) (sym t)
+      (λ t. subst (λ b. Neat rank top least (cond b (ceding_image (by rank) least k (s.page o)) (gaining_image (by rank) least k c (s.page o)))) (sym t)
       (cede_neat rank top least (s.page o) k (tidy.pages o)))
       (λ t. cond_both (eqb p q) (Earlier q (s.newest q)) Out (NeatAt (Adopt q o k c) p)
-      (λ _. subst (λ b. Neat rank top least (cond b (ceding-image (by rank) least k (s.page q)) (gaining-image (by rank) least k c (s.page q)))) (sym t)
+      (λ _. subst (λ b. Neat rank top least (cond b (ceding_image (by rank) least k (s.page q)) (gaining_image (by rank) least k c (s.page q)))) (sym t)
       (gain_neat rank top least (s.page q) k c may.below may.level (tidy.pages q)))
       (λ _. tidy.pages p))
   pages-tidy sound (Grow o) may named p =
       let part : NeatAt (Grow o) p (Earlier 0 (s.newest 0)) =
-      cond_both (eqb p 0) (risen-image (by rank) least o (s.page 0)) (s.page 0) (Neat rank top least)
+      cond_both (eqb p 0) (risen_image (by rank) least o (s.page 0)) (s.page 0) (Neat rank top least)
       (λ _. risen-neat rank top least (s.page 0) o) (λ _. tidy.pages 0) in
       cond_both (eqb p 0) (Earlier 0 (s.newest 0)) (cond (eqb p o) (Earlier 0 (s.newest 0)) Out) (NeatAt (Grow o) p)
       (λ _. part)
@@ -78,7 +78,7 @@ module _ {K V : Type 0} (rank : K → ℕ) (top : ℕ) (least : K) (s : Logged K
         cond_both (eqb 0 o) (Earlier q (s.newest q)) (cond (eqb 0 q) (Earlier q (s.newest q)) Out) (BelowAt (Foster q o d) (suc s.born))
         (λ t. absurd (omega (arith, eqb-true 0 o t, may.0, sound.shape.any)))
         (λ _. cond_both (eqb 0 q) (Earlier q (s.newest q)) Out (BelowAt (Foster q o d) (suc s.born))
-        (λ t. cond_both (eqb 0 o) (upper-image (by rank) least d (s.page q)) (lower-image (by rank) least d o (s.page q)) (λ x. x.frame.level < suc s.born)
+        (λ t. cond_both (eqb 0 o) (upper_image (by rank) least d (s.page q)) (lower_image (by rank) least d o (s.page q)) (λ x. x.frame.level < suc s.born)
         (λ _. omega (arith, same-below q t)) (λ _. omega (arith, same-below q t)))
         (λ _. omega (arith, root_below)))
     level-tidy (Adopt q o k c) may =
@@ -87,7 +87,7 @@ module _ {K V : Type 0} (rank : K → ℕ) (top : ℕ) (least : K) (s : Logged K
         (λ _. cond_both (eqb 0 q) (Earlier q (s.newest q)) Out (BelowAt (Adopt q o k c) s.born) (λ t. parts q (same-below q t)) (λ _. root_below))
       where
         parts : (r : ℕ) → (s.page r).frame.level < s.born → BelowAt (Adopt q o k c) s.born (Earlier r (s.newest r))
-        parts r h = cond_both (eqb 0 o) (ceding-image (by rank) least k (s.page r)) (gaining-image (by rank) least k c (s.page r))
+        parts r h = cond_both (eqb 0 o) (ceding_image (by rank) least k (s.page r)) (gaining_image (by rank) least k c (s.page r))
             (λ x. x.frame.level < s.born) (λ _. h) (λ _. h)
     level-tidy (Grow o) may = omega (arith, root_below)
 

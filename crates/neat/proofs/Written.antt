@@ -37,50 +37,50 @@ module _ {K A : Type 0} (rank : K → ℕ) where
   ]
 
 module _ {K : Type 0} (rank : K → ℕ) (top : ℕ) (least : K) (ranked : Ranking rank top least) (born : ℕ) (frame : ℕ → Frame K)
-    (shape : Shape rank top least born frame) (p : ℕ) (is-born : p < born) where
+    (shape : Shape rank top least born frame) (p : ℕ) (is_born : p < born) where
   -- a branch's first key is its low fence
   pub first-low : (l : ℕ) → (frame p).level ≡ suc l → first_of (frame p).kids ≡ Some (frame p).low
   first-low l e =
-      let t = shape.children p is-born l (frame p).low e (omega arith, shape.spans p is-born) in
-      first_entry rank ranked.one (frame p).low 0 _ (frame p).kids (shape.ascends p is-born) (λ i. t.inner (ap (λ x. x.1) i))
+      let t = shape.children p is_born l (frame p).low e (omega arith, shape.spans p is_born) in
+      first_entry rank ranked.one (frame p).low 0 _ (frame p).kids (shape.ascends p is_born) (λ i. t.inner (ap (λ x. x.1) i))
 
   -- the child on a key's way is another page
   pub child_pointed : (l : ℕ) (k : K) → (frame p).level ≡ suc l → Holds rank top (frame p) k → Pointed born p (kid (by rank) (frame p) k).1
   child_pointed l k e h =
-      let t = shape.children p is-born l k e h in
-      record { inner = t.inner; other = λ i. omega (arith, t.level-is, ap (λ q. (frame q).level) i); is-born = t.is-born }
+      let t = shape.children p is_born l k e h in
+      record { inner = t.inner; other = λ i. omega (arith, t.level_is, ap (λ q. (frame q).level) i); is_born = t.is_born }
 
   pub kids_pointed : (l : ℕ) → (frame p).level ≡ suc l → All (λ (e : K × ℕ). Pointed born p e.1) (frame p).kids
-  kids_pointed l e = all-entries rank (λ x. Pointed born p x.1) ((frame p).low, 0) _ _ (frame p).kids (shape.ascends p is-born)
+  kids_pointed l e = all-entries rank (λ x. Pointed born p x.1) ((frame p).low, 0) _ _ (frame p).kids (shape.ascends p is_born)
       (λ k g h. child_pointed l k e (g, h))
 
   -- a foster child is another page, from a key above the page's low fence on
   pub foster-over : (f : K × ℕ) → (frame p).foster ≡ Some f → rank (frame p).low < rank f.0
   foster-over f e =
-      let u = shape.spans p is-born in
+      let u = shape.spans p is_born in
       let v : edge rank top (upper (frame p)) ≡ rank f.0 = cc in
       omega arith
 
   pub foster_pointed : (f : K × ℕ) → (frame p).foster ≡ Some f → Pointed born p f.1
   foster_pointed f e =
-      let t = shape.fosters p is-born f e in
-      record { inner = t.inner; other = λ i. omega (arith, foster-over f e, ap rank t.low-is, ap (λ q. rank (frame q).low) i); is-born = t.is-born }
+      let t = shape.fosters p is_born f e in
+      record { inner = t.inner; other = λ i. omega (arith, foster-over f e, ap rank t.low_is, ap (λ q. rank (frame q).low) i); is_born = t.is_born }
 
 module _ {K V : Type 0} (rank : K → ℕ) (top : ℕ) (least : K) (ranked : Ranking rank top least) (s : Logged K V) (sound : Sound rank top least (tree s)) where
   pub page-formed : (p : ℕ) → p < s.born → Form rank top (s.page p)
   page-formed p b = record {
     spans = sound.shape.spans p b;
-    foster-below = sound.shape.foster-below p b;
+    foster_below = sound.shape.foster_below p b;
     pairs_ascend = sound.pairs_ascend p b;
     kids_ascend = sound.shape.ascends p b;
-    first-is = first-low rank top least ranked s.born (frames (tree s)) sound.shape p b;
+    first_is = first-low rank top least ranked s.born (frames (tree s)) sound.shape p b;
   }
 
   pub page_writable : Tidy rank top least s → (p : ℕ) → p < s.born → Writable rank top least s.born p (s.page p)
   page_writable tidy p b = record {
     neat = tidy.pages p;
     form = page-formed p b;
-    foster-above = foster-over rank top least ranked s.born (frames (tree s)) sound.shape p b;
+    foster_above = foster-over rank top least ranked s.born (frames (tree s)) sound.shape p b;
     fosters = foster_pointed rank top least ranked s.born (frames (tree s)) sound.shape p b;
     kids = go (s.page p).frame.level refl;
   }

@@ -14,13 +14,13 @@ use Rattle.tree.specs.Plan.{changed}
 pub record Pointed (born p c : ℕ) : Type 0 where
   pub inner : c ≡ 0 → ⊥
   pub other : c ≡ p → ⊥
-  pub is-born : c < born
+  pub is_born : c < born
 
 module _ {K V : Type 0} (rank : K → ℕ) (top : ℕ) (least : K) where
   -- a leaf has pairs alone, none of them with the least key, and a branch has kids alone
   pub record Neat (x : Image K V) : Type 0 where
     pub leaf_kids : x.frame.level ≡ 0 → x.frame.kids ≡ []
-    pub branch-pairs : (l : ℕ) → x.frame.level ≡ suc l → x.pairs ≡ []
+    pub branch_pairs : (l : ℕ) → x.frame.level ≡ suc l → x.pairs ≡ []
     pub named : All (λ (e : K × V). rank least < rank e.0) x.pairs
 
   -- so are all pages of a log, and the tree has fewer levels above its leaves than pages
@@ -41,7 +41,7 @@ module _ {K V : Type 0} (rank : K → ℕ) (top : ℕ) (least : K) where
   pub record Writable (born p : ℕ) (x : Image K V) : Type 0 where
     pub neat : Neat x
     pub form : Form rank top x
-    pub foster-above : (f : K × ℕ) → x.frame.foster ≡ Some f → rank x.frame.low < rank f.0
+    pub foster_above : (f : K × ℕ) → x.frame.foster ≡ Some f → rank x.frame.low < rank f.0
     pub fosters : (f : K × ℕ) → x.frame.foster ≡ Some f → Pointed born p f.1
     pub kids : All (λ (e : K × ℕ). Pointed born p e.1) x.frame.kids
 

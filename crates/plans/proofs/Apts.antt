@@ -7,7 +7,7 @@ use Rattle.tree.specs.Tree.{Holds}
 use Rattle.tree.specs.Log.{Change, Logged}
 use Rattle.tree.specs.Log.Change.{Put, Remove}
 use Rattle.tree.specs.Halves.{total, divider, Cheap}
-use Rattle.tree.specs.Plan.{changed, planned-put, divided-put, planned_tend, MayAll, Priced}
+use Rattle.tree.specs.Plan.{changed, planned_put, put_divided, planned_tend, MayAll, Priced}
 use Rattle.tree.specs.Suits.{suits}
 use Rattle.tree.proofs.Fit.{FitAll, Roomy, put-fits, remove-fits, tend_fits}
 use Rattle.tree.proofs.Plan.{put-kept, tend_kept}
@@ -15,7 +15,7 @@ use Rattle.tree.proofs.Runs.{Each}
 use Rattle.neat.specs.Neat.{NamesKey}
 use Rattle.images.specs.Keys.{Key, Value, empty_key, keyed, pair_cost, kid_cost}
 use Rattle.images.specs.Laws.{Ranked}
-use Rattle.images.proofs.Strings.{key-length, value-length}
+use Rattle.images.proofs.Strings.{key_length, value_length}
 use Rattle.media.proofs.Media.{Room, Standing, AptChange}
 use Rattle.media.proofs.Told.{kid_cheap}
 
@@ -24,7 +24,7 @@ cheap_all cost m f [] = tt
 cheap_all cost m f (e ∷ es) = (f e.0 e.1, cheap_all cost m f es)
 
 pub pair_cheap : (k : Key) (v : Value) → pair_cost (k, v) ≤ 84
-pair_cheap k v = omega (arith, key-length k, value-length v)
+pair_cheap k v = omega (arith, key_length k, value_length v)
 
 module _ (says : Says) (r : Ranked says) where
   -- changes that are apt one after another
@@ -54,20 +54,20 @@ module _ (says : Says) (r : Ranked says) where
     roomy : Roomy r.rank r.top empty_key r.ranking pair_cost kid_cost kid_cheap s
     roomy p = record { pairs = (room p).pairs; kids = (room p).kids }
 
-    put-named : (p : ℕ) (k : Key) (v : Value) → r.rank empty_key < r.rank k → Each Named (planned-put (by r.rank) pair_cost kid_cost s p k v)
+    put-named : (p : ℕ) (k : Key) (v : Value) → r.rank empty_key < r.rank k → Each Named (planned_put (by r.rank) pair_cost kid_cost s p k v)
     put-named p k v n =
         cond_both (leb (total pair_cost (set (by r.rank) k v (s.page p).pairs)) 436) (Put p k v ∷ [])
-        (divided-put (by r.rank) pair_cost kid_cost p s.born k v (divider pair_cost (s.page p).pairs)) (Each Named) (λ _. (n, tt)) (λ _. go (divider pair_cost (s.page p).pairs))
+        (put_divided (by r.rank) pair_cost kid_cost p s.born k v (divider pair_cost (s.page p).pairs)) (Each Named) (λ _. (n, tt)) (λ _. go (divider pair_cost (s.page p).pairs))
       where
-        go : (o : Option Key) → Each Named (divided-put (by r.rank) pair_cost kid_cost p s.born k v o)
+        go : (o : Option Key) → Each Named (put_divided (by r.rank) pair_cost kid_cost p s.born k v o)
         go None = (n, tt)
         go (Some d) = (tt, (n, tt))
 
     -- a put at its leaf
     pub put-apt : (p : ℕ) (k : Key) (v : Value) → r.rank empty_key < r.rank k → p < s.born → (s.page p).frame.level ≡ 0 → Holds r.rank r.top (s.page p).frame k
-        → AptAll s (planned-put (keyed says) pair_cost kid_cost s p k v)
-    put-apt p k v n b l h = subst (λ o. AptAll s (planned-put o pair_cost kid_cost s p k v)) (sym r.told)
-        (from-may s (planned-put (by r.rank) pair_cost kid_cost s p k v)
+        → AptAll s (planned_put (keyed says) pair_cost kid_cost s p k v)
+    put-apt p k v n b l h = subst (λ o. AptAll s (planned_put o pair_cost kid_cost s p k v)) (sym r.told)
+        (from-may s (planned_put (by r.rank) pair_cost kid_cost s p k v)
         (put-kept r.rank r.top empty_key r.ranking pair_cost kid_cost kid_cheap s priced stands.sound p k v (pair_cheap k v) b l h)
         (put-fits r.rank r.top empty_key r.ranking pair_cost kid_cost kid_cheap s priced stands.sound roomy p k v (pair_cheap k v) b l h)
         (put-named p k v n))
@@ -76,7 +76,7 @@ module _ (says : Says) (r : Ranked says) where
     pub remove-apt : (p : ℕ) (k : Key) (u : Value) → r.rank empty_key < r.rank k → p < s.born → (s.page p).frame.level ≡ 0 → Holds r.rank r.top (s.page p).frame k
         → find (keyed says) k (s.page p).pairs ≡ Some u → AptAll s (Remove p k ∷ [])
     remove-apt p k u n b l h e = from-may s (Remove p k ∷ [])
-        (record { is-born = b; leaf = l; holds = h }, tt)
+        (record { is_born = b; leaf = l; holds = h }, tt)
         (remove-fits r.rank r.top empty_key r.ranking pair_cost kid_cost kid_cheap s priced stands.sound roomy p k u l
         (ap (λ o. find o k (s.page p).pairs) (sym r.told) ∙ e))
         (n, tt)

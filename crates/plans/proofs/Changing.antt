@@ -64,9 +64,9 @@ module _ (says : Says) (r : Ranked says) where
   writes-apt last s c n old e at [] h w on = rests
   writes-apt last s c n old e at (p ∷ ps) h w on =
       let bs : List ℕ = encode_image p n (make (keyed says) empty_key c p (old p)) in
-      let b : p < (made says r last).born = subst (λ t. p < t.born) (sym e) h.0.is-born in
-      let m : n ≡ (made says r last).newest p = at ∙ sym h.0.newest-is ∙ sym (ap (λ t. t.newest p) e) in
-      let x : make (keyed says) empty_key c p (old p) ≡ (made says r last).page p = h.0.page-is ∙ sym (ap (λ t. t.page p) e) in
+      let b : p < (made says r last).born = subst (λ t. p < t.born) (sym e) h.0.is_born in
+      let m : n ≡ (made says r last).newest p = at ∙ sym h.0.newest_is ∙ sym (ap (λ t. t.newest p) e) in
+      let x : make (keyed says) empty_key c p (old p) ≡ (made says r last).page p = h.0.page_is ∙ sym (ap (λ t. t.page p) e) in
       mends b (ap₂ (encode_image p) m x) on (writes-apt last s c n old e at ps h.1 (did (stores p bs) w) (written_on w.disk p bs on))
 
   -- the plan's actions, by the log
@@ -85,7 +85,7 @@ module _ (says : Says) (r : Ranked says) where
       → (last : Added) × (end : World) × Apt says r added w (changing says w c old).actions (c ∷ []) last end × Opened says r last end
       × (made says r last ≡ changed (keyed says) empty_key (made says r added) c) × (end.journal.capacity ≡ w.journal.capacity)
       × (length last ≡ suc (length added)) × (usable end ≡ usable w) × (sized end ≡ true)
-  changing-apt added w media disk-on journal-on long new c apt old was room size fit =
+  changing-apt added w media disk_on journal_on long new c apt old was room size fit =
       let s : Logged Key Value = made says r added in
       let n : ℕ = suc (length added) in
       let bs : List ℕ = encode_rec n (linked s c) in
@@ -95,15 +95,15 @@ module _ (says : Says) (r : Ranked says) where
       let len : length w.journal.records ≡ length added = reads-length w.journal.records added media.reads in
       let next : next_position w ≡ n = omega (arith, len) in
       let free : log.full w.journal ≡ false = lt-leb w.journal.capacity (length w.journal.records) (omega (arith, len, room)) in
-      let grew : made says r last ≡ changed (keyed says) empty_key s c = made_more says r added w media c apt bs refl journal-on free size in
+      let grew : made says r last ≡ changed (keyed says) empty_key s c = made_more says r added w media c apt bs refl journal_on free size in
       let fits : (changed (keyed says) empty_key s c).born ≤ usable w = subst (λ x. births x s.born ≤ usable w) (sym (linked-change s.newest c)) fit in
       let born : (made says r last).born ≤ usable w = subst (λ x. x.born ≤ usable w) (sym grew) fits in
       let count : n ≡ suc s.count = ap suc (sym (made-count says r added)) in
       let t : Taken s.born c = change-taken says r added w media c apt in
       let pages : All (λ p. WrittenWell says s c (old p) p) (changed_pages c) = changed-pages says s c old t was in
       let did-it : w₁ ≡ world (raised (next_position w) (changed_pages c) w.index) w.disk (longer w.journal bs) =
-      did-adds w (changed_pages c) bs journal-on free in
-      let keep : SameButPages w₁ end = writes_keep says n c old (changed_pages c) w₁ disk-on in
+      did-adds w (changed_pages c) bs journal_on free in
+      let keep : SameButPages w₁ end = writes_keep says n c old (changed_pages c) w₁ disk_on in
       let ix : end.index ≡ raised (suc s.count) (changed_pages c) w.index =
       keep.index ∙ ap (λ x. x.index) did-it ∙ ap (λ m. raised m (changed_pages c) w.index) (next ∙ count) in
       let after = index-after says s c w.index t long new in
@@ -112,13 +112,13 @@ module _ (says : Says) (r : Ranked says) where
         last,
         end,
         subst (λ as'. Apt says r added w as' (c ∷ []) last end) (changing-is w c old s n next new)
-            (makes apt refl journal-on free size born (writes-apt last s c n old grew count (changed_pages c) pages w₁ disk-on)),
+            (makes apt refl journal_on free size born (writes-apt last s c n old grew count (changed_pages c) pages w₁ disk_on)),
         record {
           some = λ e. omega (arith, longer-by, ap length e);
-          disk-on = keep.on;
-          journal-on = ap (λ j. j.on) keep.journal ∙ ap (λ x. x.journal.on) did-it;
-          born-is = ap length ix ∙ after.0 ∙ sym (ap (λ x. x.born) grew);
-          newest-is = λ p. ap (λ l. newest l p) ix ∙ after.1 p ∙ sym (ap (λ x. x.newest p) grew);
+          disk_on = keep.on;
+          journal_on = ap (λ j. j.on) keep.journal ∙ ap (λ x. x.journal.on) did-it;
+          born_is = ap length ix ∙ after.0 ∙ sym (ap (λ x. x.born) grew);
+          newest_is = λ p. ap (λ l. newest l p) ix ∙ after.1 p ∙ sym (ap (λ x. x.newest p) grew);
         },
         grew,
         cap,

@@ -8,9 +8,9 @@ use Rattle.tree.specs.Log.{Change, Logged, Source, make, births}
 use Rattle.tree.specs.Log.Change.{Put, Remove, Foster}
 use Rattle.tree.specs.Log.Source.{Out, Earlier}
 use Rattle.tree.specs.Halves.{total, divider}
-use Rattle.tree.specs.Plan.{changed, divided-put}
+use Rattle.tree.specs.Plan.{changed, put_divided}
 use Rattle.tree.specs.Walk.{Visit, visit}
-use Rattle.tree.proofs.Runs.{Each, Putting, Removing, is-put, is-remove, any}
+use Rattle.tree.proofs.Runs.{Each, Putting, Removing, is_put, is_remove, any}
 use Rattle.images.specs.Keys.{Key, Value, empty_key, keyed, pair_cost, kid_cost}
 use Rattle.images.specs.Laws.{Ranked}
 use Rattle.model.specs.declared.refusal.Refusal.TheVariants.{LogFull, NoPage, Absent}
@@ -57,15 +57,15 @@ module _ (says : Says) (r : Ranked says) where
     pub one-does : (c : Change Key Value) → AptChange says r s c → (old : ℕ → Image Key Value) → OldIs s c old → births c s.born ≤ usable w
         → Does says r added w (one_change says w c old) (λ n cs. cs ≡ c ∷ [])
     unfolding one_change
-    one-does c apt old was fit = elim (rooms w 1 o.journal-on) [
+    one-does c apt old was fit = elim (rooms w 1 o.journal_on) [
       | inl e ↦ at_once says r added w (rooming w 1) (roomed says c old) (λ n cs. cs ≡ c ∷ []) 1 e.0
-          (let h = changing-apt says r added w media o.disk-on o.journal-on o.born-is o.newest-is c apt old was (omega (arith, long, e.1)) (media.is-sized o.some) fit in
+          (let h = changing-apt says r added w media o.disk_on o.journal_on o.born_is o.newest_is c apt old was (omega (arith, long, e.1)) (media.is_sized o.some) fit in
           record { cs = c ∷ []; last = h.0; end = h.1; apt = h.2; opened = h.3; told = inl (next_position w, changing-answers w c old, refl) })
       | inr e ↦ refused_at_once says r added w (rooming w 1) (roomed says c old) (λ n cs. cs ≡ c ∷ []) LogFull e o
     ]
 
     abbrev pub Puts : Key → Value → ℕ → List (Change Key Value) → Type 0
-    Puts k v n cs = Each (Putting k v) cs × (any is-put cs ≡ true)
+    Puts k v n cs = Each (Putting k v) cs × (any is_put cs ≡ true)
 
     module _ (p : ℕ) (k : Key) (v : Value) where
       whole : AptAll says r s (Put p k v ∷ []) → Does says r added w (one_change says w (Put p k v) (λ _. s.page p)) (Puts k v)
@@ -94,8 +94,8 @@ module _ (says : Says) (r : Ranked says) where
             → Does says r added w (divide_roomed says k v d p n (s.page p) 2 w) (Puts k v)
         divided apt room left =
             let f : Change Key Value = Foster p n d in
-            let h = changing-apt says r added w media o.disk-on o.journal-on o.born-is o.newest-is f apt.0 (λ _. s.page p) (foster-old s p n d)
-            (omega (arith, long)) (media.is-sized o.some) (omega arith) in
+            let h = changing-apt says r added w media o.disk_on o.journal_on o.born_is o.newest_is f apt.0 (λ _. s.page p) (foster-old s p n d)
+            (omega (arith, long)) (media.is_sized o.some) (omega arith) in
             let mid = h.0 in
             let u = h.1 in
             let m = apt-media says r media h.2 in
@@ -107,52 +107,52 @@ module _ (says : Says) (r : Ranked says) where
             subst (λ t. make (keyed says) empty_key (Foster p t d) q (s.page p) ≡ (changed (keyed says) empty_key s (Foster p t d)).page q) (sym n-is) (half_is d q halves)
             ∙ sym (ap (λ y. y.page q) i) ∙ ap (made says r mid).page x)
             (λ _ j. let z : ◌≡◌ {A = ℕ} 0 1 = cc in absurd (omega arith)) e in
-            let g = changing-apt says r mid u m h.3.disk-on h.3.journal-on h.3.born-is h.3.newest-is (Put q k v)
+            let g = changing-apt says r mid u m h.3.disk_on h.3.journal_on h.3.born_is h.3.newest_is (Put q k v)
             (subst (λ t. AptChange says r t (Put q k v)) (sym i) apt.1.0) old was (omega (arith, long, h.5, h.6)) h.8 m.enough in
             both_do says r added w (changing says w f (λ _. s.page p)) (put_in_half says k v d p n (s.page p)) (Puts k v) (next_position w)
             (changing-answers w f (λ _. s.page p)) (f ∷ []) mid u h.2 (Put q k v ∷ []) g.0 g.1 g.2 g.3 (next_position u)
             (changing-answers u (Put q k v) old) ((tt, ((refl, refl), tt)), refl)
 
         paged : AptAll says r s (Foster p n d ∷ Put q k v ∷ []) → s.born < usable w → Does says r added w (divide_paged says k v d p (s.page p) n w) (Puts k v)
-        paged apt left = elim (rooms w 2 o.journal-on) [
+        paged apt left = elim (rooms w 2 o.journal_on) [
           | inl e ↦ at_once says r added w (rooming w 2) (divide_roomed says k v d p n (s.page p)) (Puts k v) 2 e.0 (divided apt e.1 left)
           | inr e ↦ refused_at_once says r added w (rooming w 2) (divide_roomed says k v d p n (s.page p)) (Puts k v) LogFull e o
         ]
 
-      dividing : (t : Option Key) → AptAll says r s (divided-put (keyed says) pair_cost kid_cost p s.born k v t)
+      dividing : (t : Option Key) → AptAll says r s (put_divided (keyed says) pair_cost kid_cost p s.born k v t)
           → Does says r added w (divided_put says k v (visit p (s.page p)) w t) (Puts k v)
       dividing None apt = whole apt
       dividing (Some d) apt = elim (pages-left w) [
         | inl e ↦ at_once says r added w (paging w) (divide_paged says k v d p (s.page p)) (Puts k v) (born w) e.0
-            (paged d (born w) o.born-is
-            (subst (λ n. AptAll says r s (Foster p n d ∷ Put (half_of says k d p n) k v ∷ [])) (sym o.born-is) apt) (omega (arith, e.1, o.born-is)))
+            (paged d (born w) o.born_is
+            (subst (λ n. AptAll says r s (Foster p n d ∷ Put (half_of says k d p n) k v ∷ [])) (sym o.born_is) apt) (omega (arith, e.1, o.born_is)))
         | inr e ↦ refused_at_once says r added w (paging w) (divide_paged says k v d p (s.page p)) (Puts k v) NoPage e o
       ]
 
       pub put-does : Standing says r s → r.rank empty_key < r.rank k → p < s.born → (s.page p).frame.level ≡ 0 → Holds r.rank r.top (s.page p).frame k
           → (vs : List (Visit Key Value)) → Does says r added w (putting says k v (route vs (visit p (s.page p))) w) (Puts k v)
       unfolding putting
-      put-does stands named is-born leaf holds vs =
-          let apt = put-apt says r s stands media.room p k v named is-born leaf holds in
+      put-does stands named is_born leaf holds vs =
+          let apt = put-apt says r s stands media.room p k v named is_born leaf holds in
           go (leb (total pair_cost (set (keyed says) k v (s.page p).pairs)) 436) apt
         where
-          go : (b : Bool) → AptAll says r s (cond b (Put p k v ∷ []) (divided-put (keyed says) pair_cost kid_cost p s.born k v (divider pair_cost (s.page p).pairs)))
+          go : (b : Bool) → AptAll says r s (cond b (Put p k v ∷ []) (put_divided (keyed says) pair_cost kid_cost p s.born k v (divider pair_cost (s.page p).pairs)))
               → Does says r added w (cond b (one_change says w (Put p k v) (λ _. s.page p)) (divided_put says k v (visit p (s.page p)) w (divider pair_cost (s.page p).pairs))) (Puts k v)
           go true apt = whole apt
           go false apt = dividing (divider pair_cost (s.page p).pairs) apt
 
     abbrev pub Removes : Key → ℕ → List (Change Key Value) → Type 0
-    Removes k n cs = Each (Removing k) cs × (any is-remove cs ≡ true)
+    Removes k n cs = Each (Removing k) cs × (any is_remove cs ≡ true)
 
     pub remove-does : Standing says r s → (p : ℕ) (k : Key) → r.rank empty_key < r.rank k → p < s.born → (s.page p).frame.level ≡ 0
         → Holds r.rank r.top (s.page p).frame k → (vs : List (Visit Key Value))
         → Does says r added w (removing says k (route vs (visit p (s.page p))) w) (Removes k)
     unfolding removing
-    remove-does stands p k named is-born leaf holds vs = go (find (keyed says) k (s.page p).pairs) refl
+    remove-does stands p k named is_born leaf holds vs = go (find (keyed says) k (s.page p).pairs) refl
       where
         go : (f : Option Value) → find (keyed says) k (s.page p).pairs ≡ f → Does says r added w (remove_found says k (visit p (s.page p)) w f) (Removes k)
         go None e = refuses says r added w (Removes k) Absent o
         go (Some u) e =
-            let apt = remove-apt says r s stands media.room p k u named is-born leaf holds e in
+            let apt = remove-apt says r s stands media.room p k u named is_born leaf holds e in
             does-as says r added w _ (λ n cs. cs ≡ Remove p k ∷ []) (Removes k) (λ n cs i. subst (Removes k n) (sym i) ((refl, tt), refl))
             (one-does (Remove p k) apt.0 (λ _. s.page p) (remove-old s p k) media.enough)

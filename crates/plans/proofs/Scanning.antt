@@ -23,39 +23,39 @@ use Rattle.plans.proofs.Index.{index-after}
 
 -- an index of a state's pages
 pub record Indexes (ix : List ℕ) (s : Logged Key Value) : Type 0 where
-  pub born-is : length ix ≡ s.born
-  pub newest-is : (p : ℕ) → newest ix p ≡ s.newest p
+  pub born_is : length ix ≡ s.born
+  pub newest_is : (p : ℕ) → newest ix p ≡ s.newest p
 
 -- a change that is taken follows, with its pages' newest positions
 linked-follows : (u : ℕ) (ix : List ℕ) (s : Logged Key Value) → Indexes ix s → (c : Change Key Value) → Taken s.born c → births c s.born ≤ u
-    → follows u ix (linked s c).prev (linked s c).prev-other c ≡ true
+    → follows u ix (linked s c).prev (linked s c).prev_other c ≡ true
 linked-follows u ix s i Format t b =
-    and_from (eqb (length ix) 0) (ltb (length ix) u) (eq-eqb (length ix) 0 (omega (arith, i.born-is))) (lt-ltb (length ix) u (omega (arith, i.born-is)))
+    and_from (eqb (length ix) 0) (ltb (length ix) u) (eq-eqb (length ix) 0 (omega (arith, i.born_is))) (lt-ltb (length ix) u (omega (arith, i.born_is)))
 linked-follows u ix s i (Put p k v) t b =
-    and_from (ltb p (length ix)) (eqb (s.newest p) (newest ix p)) (lt-ltb p (length ix) (omega (arith, i.born-is))) (eq-eqb (s.newest p) (newest ix p) (sym (i.newest-is p)))
+    and_from (ltb p (length ix)) (eqb (s.newest p) (newest ix p)) (lt-ltb p (length ix) (omega (arith, i.born_is))) (eq-eqb (s.newest p) (newest ix p) (sym (i.newest_is p)))
 linked-follows u ix s i (Remove p k) t b =
-    and_from (ltb p (length ix)) (eqb (s.newest p) (newest ix p)) (lt-ltb p (length ix) (omega (arith, i.born-is))) (eq-eqb (s.newest p) (newest ix p) (sym (i.newest-is p)))
+    and_from (ltb p (length ix)) (eqb (s.newest p) (newest ix p)) (lt-ltb p (length ix) (omega (arith, i.born_is))) (eq-eqb (s.newest p) (newest ix p) (sym (i.newest_is p)))
 linked-follows u ix s i (Foster p o d) t b =
     and_from (ltb p (length ix) && eqb (s.newest p) (newest ix p)) (eqb o (length ix) && ltb (length ix) u)
-    (and_from (ltb p (length ix)) (eqb (s.newest p) (newest ix p)) (lt-ltb p (length ix) (omega (arith, i.born-is, t.0))) (eq-eqb (s.newest p) (newest ix p) (sym (i.newest-is p))))
-    (and_from (eqb o (length ix)) (ltb (length ix) u) (eq-eqb o (length ix) (omega (arith, i.born-is, t.1))) (lt-ltb (length ix) u (omega (arith, i.born-is))))
+    (and_from (ltb p (length ix)) (eqb (s.newest p) (newest ix p)) (lt-ltb p (length ix) (omega (arith, i.born_is, t.0))) (eq-eqb (s.newest p) (newest ix p) (sym (i.newest_is p))))
+    (and_from (eqb o (length ix)) (ltb (length ix) u) (eq-eqb o (length ix) (omega (arith, i.born_is, t.1))) (lt-ltb (length ix) u (omega (arith, i.born_is))))
 linked-follows u ix s i (Adopt p o k c) t b =
     and_from (ltb p (length ix) && (ltb o (length ix) && ltb c (length ix)))
     ((not (eqb p o) && (not (eqb p c) && not (eqb o c))) && (eqb (s.newest p) (newest ix p) && eqb (s.newest o) (newest ix o)))
-    (and_from (ltb p (length ix)) (ltb o (length ix) && ltb c (length ix)) (lt-ltb p (length ix) (omega (arith, i.born-is, t.0)))
-    (and_from (ltb o (length ix)) (ltb c (length ix)) (lt-ltb o (length ix) (omega (arith, i.born-is, t.1))) (lt-ltb c (length ix) (omega (arith, i.born-is, t.2)))))
+    (and_from (ltb p (length ix)) (ltb o (length ix) && ltb c (length ix)) (lt-ltb p (length ix) (omega (arith, i.born_is, t.0)))
+    (and_from (ltb o (length ix)) (ltb c (length ix)) (lt-ltb o (length ix) (omega (arith, i.born_is, t.1))) (lt-ltb c (length ix) (omega (arith, i.born_is, t.2)))))
     (and_from (not (eqb p o) && (not (eqb p c) && not (eqb o c))) (eqb (s.newest p) (newest ix p) && eqb (s.newest o) (newest ix o))
     (and_from (not (eqb p o)) (not (eqb p c) && not (eqb o c)) (apart p o t.3) (and_from (not (eqb p c)) (not (eqb o c)) (apart p c t.4) (apart o c t.5)))
-    (and_from (eqb (s.newest p) (newest ix p)) (eqb (s.newest o) (newest ix o)) (eq-eqb (s.newest p) (newest ix p) (sym (i.newest-is p))) (eq-eqb (s.newest o) (newest ix o) (sym (i.newest-is o)))))
+    (and_from (eqb (s.newest p) (newest ix p)) (eqb (s.newest o) (newest ix o)) (eq-eqb (s.newest p) (newest ix p) (sym (i.newest_is p))) (eq-eqb (s.newest o) (newest ix o) (sym (i.newest_is o)))))
 linked-follows u ix s i (Grow o) t b =
     and_from (ltb 0 (length ix) && eqb (s.newest 0) (newest ix 0)) (eqb o (length ix) && ltb (length ix) u)
-    (and_from (ltb 0 (length ix)) (eqb (s.newest 0) (newest ix 0)) (lt-ltb 0 (length ix) (omega (arith, i.born-is, t.0))) (eq-eqb (s.newest 0) (newest ix 0) (sym (i.newest-is 0))))
-    (and_from (eqb o (length ix)) (ltb (length ix) u) (eq-eqb o (length ix) (omega (arith, i.born-is, t.1))) (lt-ltb (length ix) u (omega (arith, i.born-is))))
+    (and_from (ltb 0 (length ix)) (eqb (s.newest 0) (newest ix 0)) (lt-ltb 0 (length ix) (omega (arith, i.born_is, t.0))) (eq-eqb (s.newest 0) (newest ix 0) (sym (i.newest_is 0))))
+    (and_from (eqb o (length ix)) (ltb (length ix) u) (eq-eqb o (length ix) (omega (arith, i.born_is, t.1))) (lt-ltb (length ix) u (omega (arith, i.born_is))))
 
 taken-on : (u n : ℕ) (ix : List ℕ) (o : Option (Rec Key Value)) (x : Rec Key Value) (go : List ℕ → Result (List ℕ) ℕ) → o ≡ Some x
-    → follows u ix x.prev x.prev-other x.change ≡ true → taken u n ix o go ≡ go (raised n (changed_pages x.change) ix)
+    → follows u ix x.prev x.prev_other x.change ≡ true → taken u n ix o go ≡ go (raised n (changed_pages x.change) ix)
 taken-on u n ix o x go e f = ap (λ y. taken u n ix y go) e
-    ∙ cond-true (follows u ix x.prev x.prev-other x.change) (go (raised n (changed_pages x.change) ix)) (Err n) f
+    ∙ cond-true (follows u ix x.prev x.prev_other x.change) (go (raised n (changed_pages x.change) ix)) (Err n) f
 
 -- A row with a lost record is refused, whatever else it has.
 
@@ -63,7 +63,7 @@ taken-gap : (u n : ℕ) (ix : List ℕ) (o : Option (Rec Key Value)) (go : List 
     → (m : ℕ) × (taken u n ix o go ≡ Err m)
 taken-gap u n ix None go h = (n, refl)
 taken-gap u n ix (Some x) go h =
-    cond_both (follows u ix x.prev x.prev-other x.change) (go (raised n (changed_pages x.change) ix)) (Err n) (λ y. (m : ℕ) × (y ≡ Err m))
+    cond_both (follows u ix x.prev x.prev_other x.change) (go (raised n (changed_pages x.change) ix)) (Err n) (λ y. (m : ℕ) × (y ≡ Err m))
     (λ _. h (raised n (changed_pages x.change) ix)) (λ _. (n, refl))
 
 gap-on : (u n : ℕ) (es : List Entry) (ix : List ℕ) → In lost es → (m : ℕ) × (scanning u n es ix ≡ Err m)
@@ -85,8 +85,8 @@ module _ (says : Says) where
   one_more : (n : ℕ) (ix : List ℕ) (s : Logged Key Value) (x : Rec Key Value) → n ≡ suc s.count → x ≡ linked s x.change → Taken s.born x.change
       → Indexes ix s → Indexes (raised n (changed_pages x.change) ix) (append (keyed says) empty_key x s)
   one_more n ix s x at e t i =
-      let h = index-after says s x.change ix t i.born-is i.newest-is in
-      let g : Indexes (raised (suc s.count) (changed_pages x.change) ix) (append (keyed says) empty_key (linked s x.change) s) = record { born-is = h.0; newest-is = h.1 } in
+      let h = index-after says s x.change ix t i.born_is i.newest_is in
+      let g : Indexes (raised (suc s.count) (changed_pages x.change) ix) (append (keyed says) empty_key (linked s x.change) s) = record { born_is = h.0; newest_is = h.1 } in
       subst (λ m. Indexes (raised m (changed_pages x.change) ix) (append (keyed says) empty_key x s)) (sym at)
       (subst (λ y. Indexes (raised (suc s.count) (changed_pages x.change) ix) (append (keyed says) empty_key y s)) (sym e) g)
 
@@ -104,8 +104,8 @@ module _ (says : Says) where
   scan_on u n (e ∷ es) [] s ix reads none written at grown i = absurd reads
   scan_on u n (e ∷ es) (b ∷ bs) s ix reads none written at grown i =
       let x : Rec Key Value = chain_rec n b in
-      let t : follows u ix x.prev x.prev-other x.change ≡ true =
-      ap₂ (λ (a c : ℕ). follows u ix a c x.change) (ap (λ y. y.prev) grown.0) (ap (λ y. y.prev-other) grown.0)
+      let t : follows u ix x.prev x.prev_other x.change ≡ true =
+      ap₂ (λ (a c : ℕ). follows u ix a c x.change) (ap (λ y. y.prev) grown.0) (ap (λ y. y.prev_other) grown.0)
       ∙ linked-follows u ix s i x.change grown.1 grown.2 in
       let ih = scan_on u (suc n) es bs (append (keyed says) empty_key x s) (raised n (changed_pages x.change) ix) reads.1 (λ l. none (inr l)) written.1 (ap suc at) grown.3
       (one_more n ix s x at grown.0 grown.1 i) in
@@ -124,14 +124,14 @@ module _ (says : Says) (r : Ranked says) where
   scan_told added w media some none = go w.journal.records media.reads none
     where
       begun : Indexes [] (start {V = Value} (keyed says) empty_key)
-      begun = record { born-is = refl; newest-is = λ p. refl }
+      begun = record { born_is = refl; newest_is = λ p. refl }
 
       go : (es : List Entry) → Reads es added → (In lost es → ⊥) → (ix : List ℕ) × (scanned (usable w) es ≡ Ok ix) × (length ix ≡ (made says r added).born)
           × ((p : ℕ) → newest ix p ≡ (made says r added).newest p)
       go [] reads all = absurd (some (reads_none [] added reads refl))
       go (e ∷ es) reads all =
           let h = scan_on says (usable w) 1 (e ∷ es) added (start (keyed says) empty_key) [] reads all media.written refl media.grown begun in
-          (h.index, h.gives, h.indexes.born-is, h.indexes.newest-is)
+          (h.index, h.gives, h.indexes.born_is, h.indexes.newest_is)
 
   pub scan_gap : (added : Added) (w : World) → Media says r added w → In lost w.journal.records
       → (n : ℕ) × (scanned (usable w) w.journal.records ≡ Err n)

@@ -55,9 +55,9 @@ module _ (s : Logged Key Value) where
 
 -- what is written of a page is what the change makes of it
 pub record WrittenWell (says : Says) (s : Logged Key Value) (c : Change Key Value) (x : Image Key Value) (p : ℕ) : Type 0 where
-  pub is-born : p < (changed (keyed says) empty_key s c).born
-  pub newest-is : (changed (keyed says) empty_key s c).newest p ≡ suc s.count
-  pub page-is : make (keyed says) empty_key c p x ≡ (changed (keyed says) empty_key s c).page p
+  pub is_born : p < (changed (keyed says) empty_key s c).born
+  pub newest_is : (changed (keyed says) empty_key s c).newest p ≡ suc s.count
+  pub page_is : make (keyed says) empty_key c p x ≡ (changed (keyed says) empty_key s c).page p
 
 module _ (says : Says) (s : Logged Key Value) where
   -- for a record whose change is c
@@ -76,30 +76,30 @@ module _ (says : Says) (s : Logged Key Value) where
 
   pub changed-pages : (c : Change Key Value) (old : ℕ → Image Key Value) → Taken s.born c → OldIs s c old
       → All (λ p. WrittenWell says s c (old p) p) (changed_pages c)
-  changed-pages Format old h was = (record { is-born = omega arith; newest-is = refl; page-is = refl }, tt)
+  changed-pages Format old h was = (record { is_born = omega arith; newest_is = refl; page_is = refl }, tt)
   changed-pages (Put p k v) old h was =
       let f : source (linked s (Put p k v)) p ≡ Earlier p (s.newest p) = at_one p p (s.newest p) refl in
       let g = earlier (linked s (Put p k v)) p p (s.newest p) (old p) f (was p p (s.newest p) f) in
-      (record { is-born = h; newest-is = g.0; page-is = g.1 }, tt)
+      (record { is_born = h; newest_is = g.0; page_is = g.1 }, tt)
   changed-pages (Remove p k) old h was =
       let f : source (linked {V = Value} s (Remove p k)) p ≡ Earlier p (s.newest p) = at_one p p (s.newest p) refl in
       let g = earlier (linked s (Remove p k)) p p (s.newest p) (old p) f (was p p (s.newest p) f) in
-      (record { is-born = h; newest-is = g.0; page-is = g.1 }, tt)
+      (record { is_born = h; newest_is = g.0; page_is = g.1 }, tt)
   changed-pages (Foster p o d) old h was =
       let f : source (linked {V = Value} s (Foster p o d)) p ≡ Earlier p (s.newest p) = at_second p o p (Earlier p (s.newest p)) (Earlier p (s.newest p)) (λ e. omega (arith, h.0, h.1)) refl in
       let f' : source (linked {V = Value} s (Foster p o d)) o ≡ Earlier p (s.newest p) = cond-true (eqb o o) (Earlier p (s.newest p)) (cond (eqb o p) (Earlier p (s.newest p)) Out) (eq-eqb o o refl) in
       let g = earlier (linked s (Foster p o d)) p p (s.newest p) (old p) f (was p p (s.newest p) f) in
       let g' = earlier (linked s (Foster p o d)) o p (s.newest p) (old o) f' (was o p (s.newest p) f') in
-      (record { is-born = omega (arith, h.0); newest-is = g.0; page-is = g.1 }, (record { is-born = omega (arith, h.1); newest-is = g'.0; page-is = g'.1 }, tt))
+      (record { is_born = omega (arith, h.0); newest_is = g.0; page_is = g.1 }, (record { is_born = omega (arith, h.1); newest_is = g'.0; page_is = g'.1 }, tt))
   changed-pages (Adopt p o k c) old h was =
       let f : source (linked {V = Value} s (Adopt p o k c)) p ≡ Earlier p (s.newest p) = at_second p o p (Earlier o (s.newest o)) (Earlier p (s.newest p)) h.3 refl in
       let f' : source (linked {V = Value} s (Adopt p o k c)) o ≡ Earlier o (s.newest o) = cond-true (eqb o o) (Earlier o (s.newest o)) (cond (eqb o p) (Earlier p (s.newest p)) Out) (eq-eqb o o refl) in
       let g = earlier (linked s (Adopt p o k c)) p p (s.newest p) (old p) f (was p p (s.newest p) f) in
       let g' = earlier (linked s (Adopt p o k c)) o o (s.newest o) (old o) f' (was o o (s.newest o) f') in
-      (record { is-born = h.0; newest-is = g.0; page-is = g.1 }, (record { is-born = h.1; newest-is = g'.0; page-is = g'.1 }, tt))
+      (record { is_born = h.0; newest_is = g.0; page_is = g.1 }, (record { is_born = h.1; newest_is = g'.0; page_is = g'.1 }, tt))
   changed-pages (Grow o) old h was =
       let f : source (linked {K = Key} {V = Value} s (Grow o)) 0 ≡ Earlier 0 (s.newest 0) = refl in
       let f' : source (linked {K = Key} {V = Value} s (Grow o)) o ≡ Earlier 0 (s.newest 0) = at_second o 0 o (Earlier 0 (s.newest 0)) (Earlier 0 (s.newest 0)) (λ e. omega (arith, h.0, h.1)) refl in
       let g = earlier (linked s (Grow o)) 0 0 (s.newest 0) (old 0) f (was 0 0 (s.newest 0) f) in
       let g' = earlier (linked s (Grow o)) o 0 (s.newest 0) (old o) f' (was o 0 (s.newest 0) f') in
-      (record { is-born = omega arith; newest-is = g.0; page-is = g.1 }, (record { is-born = omega (arith, h.1); newest-is = g'.0; page-is = g'.1 }, tt))
+      (record { is_born = omega arith; newest_is = g.0; page_is = g.1 }, (record { is_born = omega (arith, h.1); newest_is = g'.0; page_is = g'.1 }, tt))

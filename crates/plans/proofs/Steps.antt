@@ -7,7 +7,7 @@ use Rattle.tree.specs.Tree.{upper, edge, kid, frames, onward, Way}
 use Rattle.tree.specs.Tree.Way.{ends, goes}
 use Rattle.tree.specs.Log.{Change, Logged, tree}
 use Rattle.tree.specs.Log.Change.{Format, Put, Remove, Foster, Adopt, Grow}
-use Rattle.tree.specs.Plan.{planned_tend, rootwards, steps-below, step-or, step-at}
+use Rattle.tree.specs.Plan.{planned_tend, rootwards, steps_under, step_else, step_at}
 use Rattle.tree.specs.Walk.{visit, visits}
 use Rattle.tree.proofs.Rows.{floor-le, ceil-above}
 use Rattle.tree.proofs.Runs.{Each, Quiet}
@@ -31,8 +31,8 @@ module _ (says : Says) (r : Ranked says) where
   module _ (s : Logged Key Value) (stands : Standing says r s) (k : Key) where
     -- a born page of this level whose fences have the key
     record Low (p l : ℕ) : Type 0 where
-      is-born : p < s.born
-      level-is : (s.page p).frame.level ≡ l
+      is_born : p < s.born
+      level_is : (s.page p).frame.level ≡ l
       low : r.rank (s.page p).frame.low ≤ r.rank k
       high : r.rank k < edge r.rank r.top (s.page p).frame.high
 
@@ -40,12 +40,12 @@ module _ (says : Says) (r : Ranked says) where
     child_ranked p l h i =
         let u : edge r.rank r.top (upper (s.page p).frame) ≡ edge r.rank r.top (s.page p).frame.high = cc in
         let g : r.rank k < edge r.rank r.top (upper (s.page p).frame) = omega (arith, h.high) in
-        let t = stands.sound.shape.children p h.is-born l k h.level-is (h.low, g) in
-        let x = ap r.rank t.low-is in
+        let t = stands.sound.shape.children p h.is_born l k h.level_is (h.low, g) in
+        let x = ap r.rank t.low_is in
         let y = ap (edge r.rank r.top) t.high_is in
         record {
-          is-born = t.is-born;
-          level-is = t.level-is;
+          is_born = t.is_born;
+          level_is = t.level_is;
           low = omega (arith, floor-le r.rank k ((s.page p).frame.low, 0) (s.page p).frame.kids h.low);
           high = omega (arith, ceil-above r.rank r.top (upper (s.page p).frame) k (s.page p).frame.kids g);
         }
@@ -53,14 +53,14 @@ module _ (says : Says) (r : Ranked says) where
     child-low : (p l : ℕ) → Low p (suc l) → (s.page p).frame.foster ≡ None → Low (kid (keyed says) (s.page p).frame k).1 l
     child-low p l h i = subst (λ (o : Key → Key → Ordering). Low (kid o (s.page p).frame k).1 l) (sym r.told) (child_ranked p l h i)
 
-    root-low : Low 0 (s.page 0).frame.level
-    root-low =
+    root_low : Low 0 (s.page 0).frame.level
+    root_low =
         let t = stands.sound.shape in
         record {
-          is-born = t.any;
-          level-is = refl;
-          low = omega (arith, ap r.rank t.root-low, r.ranking.from-least k);
-          high = omega (arith, ap (edge r.rank r.top) t.root-high, r.ranking.below_top k);
+          is_born = t.any;
+          level_is = refl;
+          low = omega (arith, ap r.rank t.root_low, r.ranking.from_least k);
+          high = omega (arith, ap (edge r.rank r.top) t.root_high, r.ranking.below_top k);
         }
 
     more-visits : {p q leaf : ℕ} {ps : List ℕ} → Way (keyed says) (frames (tree s)) k q ps leaf
@@ -70,17 +70,17 @@ module _ (says : Says) (r : Ranked says) where
 
     -- what holds of no step and of each step at a branch's child, if its changes are apt, holds of the first step below a page without a foster child
     module _ (P : Option Step → Type 0) (none : P None)
-        (step : (p q : ℕ) (f : Key × ℕ) → AptAll says r s (step-at (keyed says) pair_cost kid_cost s p q f)
+        (step : (p q : ℕ) (f : Key × ℕ) → AptAll says r s (step_at (keyed says) pair_cost kid_cost s p q f)
         → P (adopt_at says s.born (visit p (s.page p)) (visit q (s.page q)) f)) where
       abbrev Below : ℕ → ℕ → ℕ → List ℕ → ℕ → Type 0
       Below p q l ps leaf = Low q l
-          → AptAll says r s (step-or (keyed says) pair_cost kid_cost s p q (steps-below (keyed says) pair_cost kid_cost s k l q) (s.page q).frame.foster)
+          → AptAll says r s (step_else (keyed says) pair_cost kid_cost s p q (steps_under (keyed says) pair_cost kid_cost s k l q) (s.page q).frame.foster)
           → P (steps_below says s.born (visit p (s.page p)) (visits s.page ps) (visit leaf (s.page leaf)))
 
       at-end : (p q l : ℕ) → Below p q l (q ∷ []) q
       at-end p q l h apt = go (s.page q).frame.foster apt
         where
-          go : (o : Option (Key × ℕ)) → AptAll says r s (step-or (keyed says) pair_cost kid_cost s p q (steps-below (keyed says) pair_cost kid_cost s k l q) o)
+          go : (o : Option (Key × ℕ)) → AptAll says r s (step_else (keyed says) pair_cost kid_cost s p q (steps_under (keyed says) pair_cost kid_cost s k l q) o)
               → P (step_or says s.born (visit p (s.page p)) (visit q (s.page q)) None o)
           go None apt = none
           go (Some f) apt = step p q f apt
@@ -92,17 +92,17 @@ module _ (says : Says) (r : Ranked says) where
           (go (s.page q).frame.foster refl l h apt)
         where
           go : (o : Option (Key × ℕ)) → (s.page q).frame.foster ≡ o → (l : ℕ) → Low q l
-              → AptAll says r s (step-or (keyed says) pair_cost kid_cost s p q (steps-below (keyed says) pair_cost kid_cost s k l q) o)
+              → AptAll says r s (step_else (keyed says) pair_cost kid_cost s p q (steps_under (keyed says) pair_cost kid_cost s k l q) o)
               → P (step_or says s.born (visit p (s.page p)) (visit q (s.page q))
               (steps_below says s.born (visit q (s.page q)) (visits s.page ps) (visit leaf (s.page leaf))) o)
           go None j zero h apt =
-              let lev = h.level-is in
+              let lev = h.level_is in
               absurd (none-some t (let z : onward (keyed says) (s.page q).frame k ≡ None = cc in sym z ∙ e))
           go None j (suc l) h apt =
-              let lev = h.level-is in
+              let lev = h.level_is in
               let c : (kid (keyed says) (s.page q).frame k).1 ≡ t = cc in
               ih l (subst (λ a. Low a l) c (child-low q l h j))
-              (subst (λ a. AptAll says r s (step-or (keyed says) pair_cost kid_cost s q a (steps-below (keyed says) pair_cost kid_cost s k l a) (s.page a).frame.foster)) c apt)
+              (subst (λ a. AptAll says r s (step_else (keyed says) pair_cost kid_cost s q a (steps_under (keyed says) pair_cost kid_cost s k l a) (s.page a).frame.foster)) c apt)
           go (Some f) j l h apt = step p q f apt
 
       below : (p : ℕ) {q leaf : ℕ} {ps : List ℕ} → Way (keyed says) (frames (tree s)) k q ps leaf → (l : ℕ) → Below p q l ps leaf
@@ -112,7 +112,7 @@ module _ (says : Says) (r : Ranked says) where
       -- from the root, which grows if it has a foster child
       abbrev First : ℕ → List ℕ → ℕ → Type 0
       First p ps leaf = Low p (s.page p).frame.level
-          → ((s.page p).frame.foster ≡ None → AptAll says r s (steps-below (keyed says) pair_cost kid_cost s k (s.page p).frame.level p))
+          → ((s.page p).frame.foster ≡ None → AptAll says r s (steps_under (keyed says) pair_cost kid_cost s k (s.page p).frame.level p))
           → ((f : Key × ℕ) → (s.page p).frame.foster ≡ Some f → P (root_step s.born (visit p (s.page p)) None (Some f)))
           → P (step_from says s.born (visits s.page ps) (visit leaf (s.page leaf)))
 
@@ -130,14 +130,14 @@ module _ (says : Says) (r : Ranked says) where
           (go (s.page p).frame.foster refl (s.page p).frame.level refl h apt)
         where
           go : (o : Option (Key × ℕ)) → (s.page p).frame.foster ≡ o → (l : ℕ) → (s.page p).frame.level ≡ l → Low p l
-              → ((s.page p).frame.foster ≡ None → AptAll says r s (steps-below (keyed says) pair_cost kid_cost s k l p))
+              → ((s.page p).frame.foster ≡ None → AptAll says r s (steps_under (keyed says) pair_cost kid_cost s k l p))
               → P (root_step s.born (visit p (s.page p)) (steps_below says s.born (visit p (s.page p)) (visits s.page ps) (visit leaf (s.page leaf))) o)
           go None j zero lev h apt =
               absurd (none-some t (let z : onward (keyed says) (s.page p).frame k ≡ None = cc in sym z ∙ e))
           go None j (suc l) lev h apt =
               let c : (kid (keyed says) (s.page p).frame k).1 ≡ t = cc in
               ih l (subst (λ a. Low a l) c (child-low p l h j))
-              (subst (λ a. AptAll says r s (step-or (keyed says) pair_cost kid_cost s p a (steps-below (keyed says) pair_cost kid_cost s k l a) (s.page a).frame.foster)) c (apt j))
+              (subst (λ a. AptAll says r s (step_else (keyed says) pair_cost kid_cost s p a (steps_under (keyed says) pair_cost kid_cost s k l a) (s.page a).frame.foster)) c (apt j))
           go (Some f) j l lev h apt = grow f j
 
       first-from : {p leaf : ℕ} {ps : List ℕ} → Way (keyed says) (frames (tree s)) k p ps leaf → First p ps leaf
@@ -148,6 +148,6 @@ module _ (says : Says) (r : Ranked says) where
           → AptAll says r s (planned_tend (keyed says) pair_cost kid_cost s k)
           → ((f : Key × ℕ) → AptAll says r s (rootwards (keyed says) pair_cost kid_cost s k (Some f)) → P (root_step s.born (visit 0 (s.page 0)) None (Some f)))
           → P (step_from says s.born (visits s.page pages) (visit leaf (s.page leaf)))
-      first_step pages leaf way apt grow = first-from way root-low
+      first_step pages leaf way apt grow = first-from way root_low
           (λ j. subst (λ o. AptAll says r s (rootwards (keyed says) pair_cost kid_cost s k o)) j apt)
           (λ f j. grow f (subst (λ o. AptAll says r s (rootwards (keyed says) pair_cost kid_cost s k o)) j apt))

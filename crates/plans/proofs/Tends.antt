@@ -7,7 +7,7 @@ use Rattle.tree.specs.Tree.{frames, Way}
 use Rattle.tree.specs.Log.{Change, Logged, births, tree}
 use Rattle.tree.specs.Log.Change.{Foster, Adopt, Grow}
 use Rattle.tree.specs.Halves.{total, divider}
-use Rattle.tree.specs.Plan.{planned_tend, rootwards, step-at, divided-branch}
+use Rattle.tree.specs.Plan.{planned_tend, rootwards, step_at, divided_branch}
 use Rattle.tree.specs.Walk.{visit, visits}
 use Rattle.tree.proofs.Runs.{Each, Quiet, tend_quiet}
 use Rattle.images.specs.Keys.{Key, Value, keyed, pair_cost, kid_cost}
@@ -49,14 +49,14 @@ module _ (says : Says) (r : Ranked says) (added : Added) (w : World) (media : Me
       → (born w < usable w → AptChange says r s st.change) → OldIs s st.change st.old → Each Quiet (st.change ∷ []) → StepDoes (Some st)
   births-one st i j apt was quiet = subst (λ (P : Plan ℕ). Does says r added w (after w P (step_paged says st)) Tends) (sym i) (elim (pages-left w) [
     | inl e ↦ at_once says r added w (paging w) (step_paged says st) Tends (born w) e.0
-        (paged st (apt e.1) was (omega (arith, e.1, o.born-is, j)) quiet (born w))
+        (paged st (apt e.1) was (omega (arith, e.1, o.born_is, j)) quiet (born w))
     | inr e ↦ refused_at_once says r added w (paging w) (step_paged says st) Tends NoPage e o
   ])
 
   untended : StepDoes None
   untended = answers says r added w Tends (Ok Untended) o (λ _ _. tt)
 
-  splits : (p : ℕ) (d : Option Key) → AptAll says r s (divided-branch (keyed says) pair_cost kid_cost p s.born d) → StepDoes (split_at s.born (visit p (s.page p)) d)
+  splits : (p : ℕ) (d : Option Key) → AptAll says r s (divided_branch (keyed says) pair_cost kid_cost p s.born d) → StepDoes (split_at s.born (visit p (s.page p)) d)
   splits p None apt = untended
   splits p (Some d) apt = births-one (record { change = Foster p s.born d; old = λ _. s.page p; told = Split }) refl refl (λ _. apt.0)
       (foster-old s p s.born d) (tt, tt)
@@ -68,11 +68,11 @@ module _ (says : Says) (r : Ranked says) (added : Added) (w : World) (media : Me
       at_once says r added w (ends (Ok 0)) (step_paged says st) Tends 0 refl
       (paged st apt.0 (adopt-old s p q f.0 f.1) media.enough (tt, tt) 0)
 
-  steps : (p q : ℕ) (f : Key × ℕ) → AptAll says r s (step-at (keyed says) pair_cost kid_cost s p q f)
+  steps : (p q : ℕ) (f : Key × ℕ) → AptAll says r s (step_at (keyed says) pair_cost kid_cost s p q f)
       → StepDoes (adopt_at says s.born (visit p (s.page p)) (visit q (s.page q)) f)
   steps p q f apt = go (leb (total kid_cost (set (keyed says) f.0 f.1 (s.page p).frame.kids)) 436) apt
     where
-      go : (b : Bool) → AptAll says r s (cond b (Adopt p q f.0 f.1 ∷ []) (divided-branch (keyed says) pair_cost kid_cost p s.born (divider kid_cost (s.page p).frame.kids)))
+      go : (b : Bool) → AptAll says r s (cond b (Adopt p q f.0 f.1 ∷ []) (divided_branch (keyed says) pair_cost kid_cost p s.born (divider kid_cost (s.page p).frame.kids)))
           → StepDoes (cond b (Some (record { change = Adopt p q f.0 f.1; old = λ t. cond (eqb t q) (s.page q) (s.page p); told = Adopted }))
           (split_at s.born (visit p (s.page p)) (divider kid_cost (s.page p).frame.kids)))
       go true apt = adopts p q f apt
@@ -87,13 +87,13 @@ module _ (says : Says) (r : Ranked says) (added : Added) (w : World) (media : Me
       go : (b : Bool) → ltb (s.page 0).frame.level 255 ≡ b → born w < usable w → AptAll says r s (cond b (Grow s.born ∷ []) [])
           → AptChange says r s (Grow s.born)
       go true e left apt = apt.0
-      go false e left apt = absurd (omega (arith, left, o.born-is, ltb-false (s.page 0).frame.level 255 e, media.tidy.level stands.sound.shape.any))
+      go false e left apt = absurd (omega (arith, left, o.born_is, ltb-false (s.page 0).frame.level 255 e, media.tidy.level stands.sound.shape.any))
 
   pub tend_does : Standing says r s → (k : Key) (pages : List ℕ) (leaf : ℕ) → Way (keyed says) (frames (tree s)) k 0 pages leaf
       → Does says r added w (tending says (route (visits s.page pages) (visit leaf (s.page leaf))) w) (λ t cs. Each Quiet cs)
   unfolding tending
   tend_does stands k pages leaf way =
-      subst (λ n. StepDoes (step_from says n (visits s.page pages) (visit leaf (s.page leaf)))) (sym o.born-is)
+      subst (λ n. StepDoes (step_from says n (visits s.page pages) (visit leaf (s.page leaf)))) (sym o.born_is)
       (first_step says r s stands k StepDoes untended steps pages leaf way
       (tend_apt says r s stands media.room k (quiet_named says r (planned_tend (keyed says) pair_cost kid_cost s k) (tend_quiet (keyed says) pair_cost kid_cost s k)))
       (grows stands k))

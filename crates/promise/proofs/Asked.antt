@@ -14,15 +14,15 @@ use Rattle.media.proofs.Afters.{after-ok, after_err}
 
 -- a refusal of the input
 pub data Input : Refusal → Type 0 where
-  key-length : Input KeyLength
-  value-length : Input ValueLength
+  key_length : Input KeyLength
+  value_length : Input ValueLength
   buffer : Input Buffer
   work_list : Input WorkList
 
 -- a refusal of the input is none of these
 pub input_not_absent : {ε : Refusal} → Input ε → ◌≡◌ {A = Result Reply Refusal} (Err ε) (Err Absent) → ⊥
-input_not_absent key-length e = let z : ◌≡◌ {A = ℕ} 0 1 = cc in omega arith
-input_not_absent value-length e = let z : ◌≡◌ {A = ℕ} 0 1 = cc in omega arith
+input_not_absent key_length e = let z : ◌≡◌ {A = ℕ} 0 1 = cc in omega arith
+input_not_absent value_length e = let z : ◌≡◌ {A = ℕ} 0 1 = cc in omega arith
 input_not_absent buffer e = let z : ◌≡◌ {A = ℕ} 0 1 = cc in omega arith
 input_not_absent work_list e = let z : ◌≡◌ {A = ℕ} 0 1 = cc in omega arith
 
@@ -78,9 +78,9 @@ module _ (says : Says) (w : World) where
       ⊎ ((k : Key) × (v : Value) × (key_of key ≡ Some k) × (value_of value ≡ Some v) × (put_plan says key value work w ≡ after w (way says w k) (put_on_way says k v)))
   unfolding put_plan
   put-asked key value work = elim (key-told key) [
-    | inl e ↦ inl (KeyLength, key-length, asked_err w (key_asked key) (put_key says value work) KeyLength e)
+    | inl e ↦ inl (KeyLength, key_length, asked_err w (key_asked key) (put_key says value work) KeyLength e)
     | inr h ↦ let k = h.0 in let a = asked-ok w (key_asked key) (put_key says value work) k h.2 in elim (value-told value) [
-      | inl e ↦ inl (ValueLength, value-length, a ∙ asked_err w (value_asked value) (put_value says work k) ValueLength e)
+      | inl e ↦ inl (ValueLength, value_length, a ∙ asked_err w (value_asked value) (put_value says work k) ValueLength e)
       | inr g ↦ let v = g.0 in let b = asked-ok w (value_asked value) (put_value says work k) v g.2 in elim (work_told w work) [
         | inl e ↦ inl (WorkList, work_list, a ∙ b ∙ asked_err w (work_asked w work) (put_work says k v) WorkList e.0)
         | inr e ↦ inr (k, v, h.1, g.1, a ∙ b ∙ asked-ok w (work_asked w work) (put_work says k v) 0 e.0)
@@ -92,7 +92,7 @@ module _ (says : Says) (w : World) where
       ⊎ ((k : Key) × (key_of key ≡ Some k) × (remove_plan says key work w ≡ after w (way says w k) (remove_on_way says k)))
   unfolding remove_plan
   remove-asked key work = elim (key-told key) [
-    | inl e ↦ inl (KeyLength, key-length, asked_err w (key_asked key) (remove_key says work) KeyLength e)
+    | inl e ↦ inl (KeyLength, key_length, asked_err w (key_asked key) (remove_key says work) KeyLength e)
     | inr h ↦ let k = h.0 in let a = asked-ok w (key_asked key) (remove_key says work) k h.2 in elim (work_told w work) [
       | inl e ↦ inl (WorkList, work_list, a ∙ asked_err w (work_asked w work) (remove_work says k) WorkList e.0)
       | inr e ↦ inr (k, h.1, a ∙ asked-ok w (work_asked w work) (remove_work says k) 0 e.0)
@@ -103,7 +103,7 @@ module _ (says : Says) (w : World) where
       ⊎ ((k : Key) × (key_of key ≡ Some k) × (tend_plan says key work w ≡ after w (way says w k) (tend_on_way says)))
   unfolding tend_plan
   tend_asked key work = elim (key-told key) [
-    | inl e ↦ inl (KeyLength, key-length, asked_err w (key_asked key) (tend_key says work) KeyLength e)
+    | inl e ↦ inl (KeyLength, key_length, asked_err w (key_asked key) (tend_key says work) KeyLength e)
     | inr h ↦ let k = h.0 in let a = asked-ok w (key_asked key) (tend_key says work) k h.2 in elim (work_told w work) [
       | inl e ↦ inl (WorkList, work_list, a ∙ asked_err w (work_asked w work) (tend_work says k) WorkList e.0)
       | inr e ↦ inr (k, h.1, a ∙ asked-ok w (work_asked w work) (tend_work says k) 0 e.0)
@@ -115,14 +115,14 @@ module _ (says : Says) (w : World) where
       ⊎ ((k : Key) × WellFormed key k room work w × (get_plan says key room work w ≡ after w (way says w k) (get_on_way says k)))
   unfolding get_plan
   get-asked key room work = elim (key-told key) [
-    | inl e ↦ inl ((KeyLength, key-length, asked_err w (key_asked key) (get_key says room work) KeyLength e), λ k f. no_key key e k f.key-is)
+    | inl e ↦ inl ((KeyLength, key_length, asked_err w (key_asked key) (get_key says room work) KeyLength e), λ k f. no_key key e k f.key_is)
     | inr h ↦ let k = h.0 in let a = asked-ok w (key_asked key) (get_key says room work) k h.2 in elim (room-told (leb 64 room)) [
-      | inl e ↦ inl ((Buffer, buffer, a ∙ asked_err w (room_asked (leb 64 room)) (get_room says work k) Buffer e.0), λ j f. let t = leb-false 64 room e.1 in omega (arith, f.room-is))
+      | inl e ↦ inl ((Buffer, buffer, a ∙ asked_err w (room_asked (leb 64 room)) (get_room says work k) Buffer e.0), λ j f. let t = leb-false 64 room e.1 in omega (arith, f.room_is))
       | inr g ↦ let b = asked-ok w (room_asked (leb 64 room)) (get_room says work k) 0 g.0 in elim (work_told w work) [
         | inl e ↦ inl ((WorkList, work_list, a ∙ b ∙ asked_err w (work_asked w work) (get_work says k) WorkList e.0), λ j f. omega (arith, e.1, f.work_is))
         | inr e ↦ inr (
           k,
-          record { key-is = h.1; room-is = leb-true 64 room g.1; work_is = e.1 },
+          record { key_is = h.1; room_is = leb-true 64 room g.1; work_is = e.1 },
           a ∙ b ∙ asked-ok w (work_asked w work) (get_work says k) 0 e.0,
         )
       ]
@@ -133,7 +133,7 @@ module _ (says : Says) (w : World) where
       ⊎ ((k : Key) × (fence_of key ≡ Some k) × (next_plan says key key_room room work w ≡ seeking says k (suc (born w)) k w))
   unfolding next_plan
   next-asked key key_room room work = elim (fence_told key) [
-    | inl e ↦ inl (KeyLength, key-length, asked_err w (fence_asked key) (next_key says key_room room work) KeyLength e)
+    | inl e ↦ inl (KeyLength, key_length, asked_err w (fence_asked key) (next_key says key_room room work) KeyLength e)
     | inr h ↦ let k = h.0 in let a = asked-ok w (fence_asked key) (next_key says key_room room work) k h.2 in elim (room-told (leb 16 key_room && leb 64 room)) [
       | inl e ↦ inl (Buffer, buffer, a ∙ asked_err w (room_asked (leb 16 key_room && leb 64 room)) (next_room says work k) Buffer e.0)
       | inr g ↦ let b = asked-ok w (room_asked (leb 16 key_room && leb 64 room)) (next_room says work k) 0 g.0 in elim (work_told w work) [

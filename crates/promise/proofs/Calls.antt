@@ -4,7 +4,7 @@ use Rattle.std.proofs.lemmas.Bool.{cases_eq}
 use Rattle.order.specs.Lawful.{Says}
 use Rattle.tree.specs.Log.{Change, Logged}
 use Rattle.tree.specs.Walk.{visit, visits}
-use Rattle.tree.proofs.Runs.{Each, Quiet, Putting, Removing, is-put, is-remove, any}
+use Rattle.tree.proofs.Runs.{Each, Quiet, Putting, Removing, is_put, is_remove, any}
 use Rattle.images.specs.Keys.{Key, Value, empty_key, key_of}
 use Rattle.images.specs.Laws.{Ranked}
 use Rattle.images.proofs.Strings.{key_of_bytes}
@@ -64,7 +64,7 @@ key-named : (says : Says) (r : Ranked says) (key : List ℕ) (k : Key) → key_o
 unfolding key_of
 key-named says r key k e = elim (cases_eq (r.rank empty_key) (r.rank k)) [
   | inl i ↦ absurd (go key e (ap (λ x. x.bytes) (sym (r.ranking.one empty_key k i))))
-  | inr n ↦ omega (arith, r.ranking.from-least k)
+  | inr n ↦ omega (arith, r.ranking.from_least k)
 ]
   where
     go : (b : List ℕ) → key_of b ≡ Some k → k.bytes ≡ [] → ⊥
@@ -128,9 +128,9 @@ module _ (says : Says) (r : Ranked says) (added : Added) (w : World) (media : Me
           subst (λ P. Does says r added w P (λ x cs. Fitting (Put key value work) (Ok x) cs)) (sym h.4)
           (on-way k (put_on_way says k v) (λ x cs. Fitting (Put key value work) (Ok x) cs) (λ a u m p.
           then-tells says r added u (putting says k v (route (visits s.page a.pages) (visit a.leaf (s.page a.leaf))) u) (replied Accepted) (λ _. Accepted) (λ x u'. refl)
-          (λ n cs. Each (Putting k v) cs × (any is-put cs ≡ true)) (λ x cs. Fitting (Put key value work) (Ok x) cs)
+          (λ n cs. Each (Putting k v) cs × (any is_put cs ≡ true)) (λ x cs. Fitting (Put key value work) (Ok x) cs)
           (λ n cs q. inl (k, v, h.2, h.3, q.0, sym q.1))
-          (put-does says r added u m p a.leaf k v stands (key-named says r key k h.2) a.leaf-born a.is_leaf a.holds (visits s.page a.pages))))
+          (put-does says r added u m p a.leaf k v stands (key-named says r key k h.2) a.leaf_born a.is_leaf a.holds (visits s.page a.pages))))
     ]
 
     pub remove-call : (key : List ℕ) (work : ℕ) → Does says r added w (remove_plan says key work w) (λ x cs. Fitting (Remove key work) (Ok x) cs)
@@ -141,9 +141,9 @@ module _ (says : Says) (r : Ranked says) (added : Added) (w : World) (media : Me
           subst (λ P. Does says r added w P (λ x cs. Fitting (Remove key work) (Ok x) cs)) (sym h.2)
           (on-way k (remove_on_way says k) (λ x cs. Fitting (Remove key work) (Ok x) cs) (λ a u m p.
           then-tells says r added u (removing says k (route (visits s.page a.pages) (visit a.leaf (s.page a.leaf))) u) (replied Accepted) (λ _. Accepted) (λ x u'. refl)
-          (λ n cs. Each (Removing k) cs × (any is-remove cs ≡ true)) (λ x cs. Fitting (Remove key work) (Ok x) cs)
+          (λ n cs. Each (Removing k) cs × (any is_remove cs ≡ true)) (λ x cs. Fitting (Remove key work) (Ok x) cs)
           (λ n cs q. inl (k, h.1, q.0, sym q.1))
-          (remove-does says r added u m p stands a.leaf k (key-named says r key k h.1) a.leaf-born a.is_leaf a.holds (visits s.page a.pages))))
+          (remove-does says r added u m p stands a.leaf k (key-named says r key k h.1) a.leaf_born a.is_leaf a.holds (visits s.page a.pages))))
     ]
 
     pub tend_call : (key : List ℕ) (work : ℕ) → Does says r added w (tend_plan says key work w) (λ x cs. Each Quiet cs)

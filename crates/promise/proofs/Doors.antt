@@ -83,7 +83,7 @@ module _ (says : Says) (r : Ranked says) (added : Added) (w : World) (media : Me
   woke = did wakes w
 
   woke-opened : Opened says r added w → Opened says r added woke
-  woke-opened o = record { some = o.some; disk-on = refl; journal-on = refl; born-is = o.born-is; newest-is = o.newest-is }
+  woke-opened o = record { some = o.some; disk_on = refl; journal_on = refl; born_is = o.born_is; newest_is = o.newest_is }
 
   -- a new log can be formatted
   format-apt : added ≡ [] → AptChange says r (made says r added) Format
@@ -148,8 +148,8 @@ module _ (says : Says) (r : Ranked says) (added : Added) (w : World) (media : Me
   pub record Accepts : Type 0 where
     pub index : List ℕ
     pub plan : opening w ≡ record { actions = wakes ∷ indexes index ∷ []; answer = Ok Accepted }
-    pub born-is : length index ≡ (made says r added).born
-    pub newest-is : (p : ℕ) → newest index p ≡ (made says r added).newest p
+    pub born_is : length index ≡ (made says r added).born
+    pub newest_is : (p : ℕ) → newest index p ≡ (made says r added).newest p
     pub some : added ≡ [] → ⊥
     pub records : w.journal.records ≡ [] → ⊥
     pub whole : In lost w.journal.records → ⊥
@@ -184,7 +184,7 @@ module _ (says : Says) (r : Ranked says) (added : Added) (w : World) (media : Me
           none : (xs : Added) → added ≡ xs → length added ≡ 0
           none [] i = ap length i
           none (x ∷ xs) i =
-              let t = media.is-sized (λ n. let l = ap length (sym i ∙ n) in omega arith) in
+              let t = media.is_sized (λ n. let l = ap length (sym i ∙ n) in omega arith) in
               let z : ◌≡◌ {A = ℕ} 0 1 = cc in absurd (omega arith)
 
       refuse : opening w ≡ record { actions = wakes ∷ (open_awake 0 woke).actions; answer = (open_awake 0 woke).answer } → (n : ℕ) → scanned (usable w) w.journal.records ≡ Err n
@@ -209,8 +209,8 @@ module _ (says : Says) (r : Ranked says) (added : Added) (w : World) (media : Me
             inl (record {
               index = f.0;
               plan = a ∙ ap (λ y. record { actions = wakes ∷ (opened y).actions; answer = (opened y).answer }) f.1;
-              born-is = f.2;
-              newest-is = f.3;
+              born_is = f.2;
+              newest_is = f.3;
               some = some;
               records = λ h. omega (arith, ap length (sym i ∙ h));
               whole = n;

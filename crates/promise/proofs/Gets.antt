@@ -56,7 +56,7 @@ module _ (says : Says) (r : Ranked says) where
           let p = a.0 in
           let st = stands_well says r added w kept.media o in
           let f : find (keyed says) k (s.page p.leaf).pairs ≡ s.stands k =
-          ap (λ c. find c k (s.page p.leaf).pairs) r.told ∙ st.sound.leaves p.leaf p.leaf-born k p.is_leaf p.holds in
+          ap (λ c. find c k (s.page p.leaf).pairs) r.told ∙ st.sound.leaves p.leaf p.leaf_born k p.is_leaf p.holds in
           inr (
             ap (λ P. P.answer) (after-ok w (way says w k) (get_on_way says k) _ a.1) ∙ ap value_found f ∙ found-told (s.stands k)
                 ∙ ap answer_of (kept.stand k ∙ ap (present h) (key_of_bytes key k i)),
@@ -73,7 +73,7 @@ module _ (says : Says) (r : Ranked says) where
     pub get_told : Opened says r added w → (key : List ℕ) (room work : ℕ) → GetTold key room work (get_plan says key room work w).answer
     get_told o key room work = elim (get-asked says w key room work) [
       | inl e ↦ inl (e.0.0, e.0.1, ap (λ P. P.answer) e.0.2, e.1)
-      | inr g ↦ inr (g.0, g.1, subst (λ P. GetAnswer key g.0 P.answer) (sym g.2) (get_answer o key g.0 g.1.key-is))
+      | inr g ↦ inr (g.0, g.1, subst (λ P. GetAnswer key g.0 P.answer) (sym g.2) (get_answer o key g.0 g.1.key_is))
     ]
 
     abbrev pub RightGet : List ℕ → Result Reply Refusal → Type 0

@@ -53,7 +53,7 @@ module _ (says : Says) (r : Ranked says) where
         end = _;
         apt = awakes (reindexes rests);
         fitting = tt;
-        opened = λ _. record { some = a.some; disk-on = refl; journal-on = refl; born-is = a.born-is; newest-is = a.newest-is };
+        opened = λ _. record { some = a.some; disk_on = refl; journal_on = refl; born_is = a.born_is; newest_is = a.newest_is };
       })
       | inr a ↦
           let p = a.planned in
@@ -114,7 +114,7 @@ module _ (says : Says) (r : Ranked says) where
         opened = o;
         stand = λ j.
             ap (λ l. value_bytes ((made says r l).stands j)) (sym came.log_is)
-            ∙ ap (λ s. value_bytes (s.stands j)) came.makes-all
+            ∙ ap (λ s. value_bytes (s.stands j)) came.makes_all
             ∙ ap (λ f. value_bytes (f j)) (changes-stand (keyed says) empty_key (made says r added) cs)
             ∙ event-stands says r c x cs (new_records w e) fit came.puts came.removes (made says r added).stands j (present h j.bytes) (kept.stand j);
       }

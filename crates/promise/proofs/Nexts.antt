@@ -69,11 +69,11 @@ module _ (says : Says) (r : Ranked says) where
           let e = a.0 in (
             (λ k' v i.
                 let z : ◌≡◌ {A = Result Reply Refusal} (Ok (Listed e.0.bytes e.1.bytes)) (Ok (Listed k' v)) = sym a.1 ∙ i in
-                let key-is : e.0.bytes ≡ k' = cc in
+                let key_is : e.0.bytes ≡ k' = cc in
                 let value-is : e.1.bytes ≡ v = cc in
-                subst (λ y. LeastAbove says h k.bytes y v) key-is (subst (λ y. LeastAbove says h k.bytes e.0.bytes y) value-is (record {
+                subst (λ y. LeastAbove says h k.bytes y v) key_is (subst (λ y. LeastAbove says h k.bytes e.0.bytes y) value-is (record {
                   higher = less k e.0 a.2;
-                  is-present = sym (kept.stand e.0) ∙ bytes-some (s.stands e.0) e.1 a.3;
+                  is_present = sym (kept.stand e.0) ∙ bytes-some (s.stands e.0) e.1 a.3;
                   none_between = λ j short lo hi. none-stands (as_key j short) (a.4 (as_key j short) (below k (as_key j short) lo) (below (as_key j short) e.0 hi));
                 }))),
             (λ i. err_not_ok _ Absent (Listed e.0.bytes e.1.bytes) i a.1),

@@ -77,7 +77,7 @@ get_tells_exactly_what_is_lost says law h added t w e run key k room work wf x s
       | inl i ↦ elim (get_told says r kept (kept.opened refl) key room work) [
         | inl a ↦ absurd (a.3 k wf)
         | inr a ↦
-            let one : a.0 ≡ k = same_some a.0 k (sym a.1.key-is ∙ wf.key-is) in
+            let one : a.0 ≡ k = same_some a.0 k (sym a.1.key_is ∙ wf.key_is) in
             subst (GetAnswer says r kept key k) (sym i) (subst (λ j. GetAnswer says r kept key j (get_plan says key room work w).answer) one a.2)
       ]
     ]
@@ -92,8 +92,8 @@ open_index_is_that_of_the_log says law h added w run =
     let o = kept.opened refl in
     let stands = stands_well says r added w kept.media o in
     record {
-      few = omega (arith, o.born-is, kept.media.enough);
-      born-is = o.born-is;
-      at_least_one = λ p b. omega (arith, o.newest-is p, stands.positive p (omega (arith, o.born-is)));
-      newest-is = o.newest-is;
+      few = omega (arith, o.born_is, kept.media.enough);
+      born_is = o.born_is;
+      at_least_one = λ p b. omega (arith, o.newest_is p, stands.positive p (omega (arith, o.born_is)));
+      newest_is = o.newest_is;
     }

@@ -10,7 +10,7 @@ use Rattle.wal.specs.Journal.{Entry}
 use Rattle.tree.specs.Log.{Change}
 use Rattle.tree.specs.Plan.{Begins}
 use Rattle.tree.specs.Plan.Begins.{nothing, more}
-use Rattle.tree.proofs.Runs.{standing-all, Putting, Removing, Quiet, Each, each-begins, quiet_stands, putting-stands, removing-stands, is-put, is-remove, any}
+use Rattle.tree.proofs.Runs.{standing_all, Putting, Removing, Quiet, Each, each-begins, quiet_stands, putting-stands, removing-stands, is_put, is_remove, any}
 use Rattle.images.specs.Keys.{Key, Value, empty_key, keyed, key_of, value_of}
 use Rattle.images.specs.Laws.{Ranked}
 use Rattle.images.proofs.Strings.{same_key, key_of_bytes, value_of_bytes}
@@ -29,10 +29,10 @@ abbrev pub Fitting : Call → Result Reply Refusal → List (Change Key Value) �
 Fitting Create x cs = Each Quiet cs
 Fitting Open x cs = Each Quiet cs
 Fitting (Put key value work) x cs =
-    ((k : Key) × (v : Value) × (key_of key ≡ Some k) × (value_of value ≡ Some v) × Each (Putting k v) cs × (stands x (any is-put cs) ≡ any is-put cs))
+    ((k : Key) × (v : Value) × (key_of key ≡ Some k) × (value_of value ≡ Some v) × Each (Putting k v) cs × (stands x (any is_put cs) ≡ any is_put cs))
     ⊎ ((cs ≡ []) × (stands x false ≡ false))
 Fitting (Remove key work) x cs =
-    ((k : Key) × (key_of key ≡ Some k) × Each (Removing k) cs × (stands x (any is-remove cs) ≡ any is-remove cs)) ⊎ ((cs ≡ []) × (stands x false ≡ false))
+    ((k : Key) × (key_of key ≡ Some k) × Each (Removing k) cs × (stands x (any is_remove cs) ≡ any is_remove cs)) ⊎ ((cs ≡ []) × (stands x false ≡ false))
 Fitting (Get key room work) x cs = Each Quiet cs
 Fitting (Next key key_room room work) x cs = Each Quiet cs
 Fitting (Tend key work) x cs = Each Quiet cs
@@ -76,19 +76,19 @@ module _ (says : Says) (r : Ranked says) where
 
   -- the values that stand after a call's changes
   pub event-stands : (c : Call) (x : Result Reply Refusal) (cs : List (Change Key Value)) (es : List Entry) → Fitting c x cs
-      → reaches 2 es ≡ any is-put cs → reaches 3 es ≡ any is-remove cs → (f : Key → Option Value) (j : Key) (was : Option (List ℕ)) → value_bytes (f j) ≡ was
-      → value_bytes (standing-all (keyed says) empty_key cs f j) ≡ after_event c x es j.bytes was
+      → reaches 2 es ≡ any is_put cs → reaches 3 es ≡ any is_remove cs → (f : Key → Option Value) (j : Key) (was : Option (List ℕ)) → value_bytes (f j) ≡ was
+      → value_bytes (standing_all (keyed says) empty_key cs f j) ≡ after_event c x es j.bytes was
   event-stands Create x cs es fit a b f j was e = ap value_bytes (quiet_stands (keyed says) empty_key cs f fit j) ∙ e
   event-stands Open x cs es fit a b f j was e = ap value_bytes (quiet_stands (keyed says) empty_key cs f fit j) ∙ e
   event-stands (Put key value work) x cs es (inl fit) a b f j was e =
       let k = fit.0 in
       let v = fit.1 in
-      let own : stands x (reaches 2 es) ≡ any is-put cs = ap (stands x) a ∙ fit.5 in
+      let own : stands x (reaches 2 es) ≡ any is_put cs = ap (stands x) a ∙ fit.5 in
       let p = putting-stands (keyed says) empty_key k v cs f fit.4 j in
       let kb = key_of_bytes key k fit.2 in
       let vb = value_of_bytes value v fit.3 in
       let t = same_test j k in
-      ap value_bytes p ∙ go (any is-put cs) (compare_is_eq (keyed says j k)) (stands x (reaches 2 es)) own (t ∙ ap (λ z. bytes_eq z j.bytes) kb) (ap (λ z. Some z) vb)
+      ap value_bytes p ∙ go (any is_put cs) (compare_is_eq (keyed says j k)) (stands x (reaches 2 es)) own (t ∙ ap (λ z. bytes_eq z j.bytes) kb) (ap (λ z. Some z) vb)
     where
       go : (o q s : Bool) → s ≡ o → q ≡ bytes_eq key j.bytes → Some fit.1.bytes ≡ Some value
           → value_bytes (cond o (cond q (Some fit.1) (f j)) (f j)) ≡ cond (s && bytes_eq key j.bytes) (Some value) was
@@ -96,16 +96,16 @@ module _ (says : Says) (r : Ranked says) where
       go true false s m n i = let u : (s && bytes_eq key j.bytes) ≡ false = cc in e ∙ ap (λ z. cond z (Some value) was) (sym u)
       go false q s m n i = let u : (s && bytes_eq key j.bytes) ≡ false = cc in e ∙ ap (λ z. cond z (Some value) was) (sym u)
   event-stands (Put key value work) x cs es (inr fit) a b f j was e =
-      let n : any is-put cs ≡ false = ap (any is-put) fit.0 in
+      let n : any is_put cs ≡ false = ap (any is_put) fit.0 in
       let u : stands x (reaches 2 es) ≡ false = ap (stands x) (a ∙ n) ∙ fit.1 in
-      ap (λ ds. value_bytes (standing-all (keyed says) empty_key ds f j)) fit.0 ∙ e ∙ ap (λ z. cond (z && bytes_eq key j.bytes) (Some value) was) (sym u)
+      ap (λ ds. value_bytes (standing_all (keyed says) empty_key ds f j)) fit.0 ∙ e ∙ ap (λ z. cond (z && bytes_eq key j.bytes) (Some value) was) (sym u)
   event-stands (Remove key work) x cs es (inl fit) a b f j was e =
       let k = fit.0 in
-      let own : stands x (reaches 3 es) ≡ any is-remove cs = ap (stands x) b ∙ fit.3 in
+      let own : stands x (reaches 3 es) ≡ any is_remove cs = ap (stands x) b ∙ fit.3 in
       let p = removing-stands (keyed says) empty_key k cs f fit.2 j in
       let kb = key_of_bytes key k fit.1 in
       let t = same_test j k in
-      ap value_bytes p ∙ go (any is-remove cs) (compare_is_eq (keyed says j k)) (stands x (reaches 3 es)) own (t ∙ ap (λ z. bytes_eq z j.bytes) kb)
+      ap value_bytes p ∙ go (any is_remove cs) (compare_is_eq (keyed says j k)) (stands x (reaches 3 es)) own (t ∙ ap (λ z. bytes_eq z j.bytes) kb)
     where
       go : (o q s : Bool) → s ≡ o → q ≡ bytes_eq key j.bytes
           → value_bytes (cond o (cond q None (f j)) (f j)) ≡ cond (s && bytes_eq key j.bytes) None was
@@ -113,9 +113,9 @@ module _ (says : Says) (r : Ranked says) where
       go true false s m n = let u : (s && bytes_eq key j.bytes) ≡ false = cc in e ∙ ap (λ z. cond z None was) (sym u)
       go false q s m n = let u : (s && bytes_eq key j.bytes) ≡ false = cc in e ∙ ap (λ z. cond z None was) (sym u)
   event-stands (Remove key work) x cs es (inr fit) a b f j was e =
-      let n : any is-remove cs ≡ false = ap (any is-remove) fit.0 in
+      let n : any is_remove cs ≡ false = ap (any is_remove) fit.0 in
       let u : stands x (reaches 3 es) ≡ false = ap (stands x) (b ∙ n) ∙ fit.1 in
-      ap (λ ds. value_bytes (standing-all (keyed says) empty_key ds f j)) fit.0 ∙ e ∙ ap (λ z. cond (z && bytes_eq key j.bytes) None was) (sym u)
+      ap (λ ds. value_bytes (standing_all (keyed says) empty_key ds f j)) fit.0 ∙ e ∙ ap (λ z. cond (z && bytes_eq key j.bytes) None was) (sym u)
   event-stands (Get key room work) x cs es fit a b f j was e = ap value_bytes (quiet_stands (keyed says) empty_key cs f fit j) ∙ e
   event-stands (Next key key_room room work) x cs es fit a b f j was e = ap value_bytes (quiet_stands (keyed says) empty_key cs f fit j) ∙ e
   event-stands (Tend key work) x cs es fit a b f j was e = ap value_bytes (quiet_stands (keyed says) empty_key cs f fit j) ∙ e

@@ -81,5 +81,5 @@ pub all_short : All (λ s. is_short 256 16 s ≡ true) all-keys
 unfolding all-keys
 all_short = short-strings 256 16
 
-pub key-length : (s : List ℕ) → is_short 256 16 s ≡ true → length s ≤ 16
-key-length = short-length 256 16
+pub key_length : (s : List ℕ) → is_short 256 16 s ≡ true → length s ≤ 16
+key_length = short-length 256 16

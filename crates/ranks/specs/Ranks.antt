@@ -28,7 +28,7 @@ by rank j k = by_number (rank j) (rank k)
 pub record Ranking {K : Type 0} (rank : K → ℕ) (top : ℕ) (least : K) : Type 0 where
   pub one : (j k : K) → rank j ≡ rank k → j ≡ k
   pub below_top : (k : K) → rank k < top
-  pub from-least : (k : K) → rank least ≤ rank k
+  pub from_least : (k : K) → rank least ≤ rank k
 
 -- the order compares ranks
 pub record Told (says : Says) : Type 0 where

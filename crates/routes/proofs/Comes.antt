@@ -60,12 +60,12 @@ module _ (rank : Key → ℕ) (top : ℕ) (ranked : Ranking rank top empty_key) 
     pub pages : List ℕ
     pub leaf : ℕ
     pub way : Way cmp (frames (tree (logged cmp empty_key w))) k 0 pages leaf
-    pub leaf-born : leaf < (logged cmp empty_key w).born
+    pub leaf_born : leaf < (logged cmp empty_key w).born
     pub is_leaf : ((logged cmp empty_key w).page leaf).frame.level ≡ 0
     pub holds : Holds rank top ((logged cmp empty_key w).page leaf).frame k
-    pub all-born : All (λ p. p < (logged cmp empty_key w).born) pages
+    pub all_born : All (λ p. p < (logged cmp empty_key w).born) pages
     pub comes_to : goes_to cmp empty_key pair_cost kid_cost w k ≡ Met (visits (logged cmp empty_key w).page pages) (visit leaf ((logged cmp empty_key w).page leaf))
-    pub none-lost : LostOnWay cmp empty_key pair_cost kid_cost w k → ⊥
+    pub none_is_lost : LostOnWay cmp empty_key pair_cost kid_cost w k → ⊥
 
   abbrev pub Ends : (Key → Key → Ordering) → Key → Type 0
   Ends cmp k = Reaches cmp k
@@ -77,12 +77,12 @@ module _ (rank : Key → ℕ) (top : ℕ) (ranked : Ranking rank top empty_key) 
       pages = a.pages;
       leaf = a.leaf;
       way = a.way;
-      leaf-born = a.leaf-born;
+      leaf_born = a.leaf_born;
       is_leaf = a.is_leaf;
       holds = a.holds;
-      all-born = a.all-born;
+      all_born = a.all_born;
       comes_to = a.comes_to;
-      none-lost = a.none-lost;
+      none_is_lost = a.none_is_lost;
     })
     | inr a ↦ inr a
   ]

@@ -24,7 +24,7 @@ use Rattle.media.proofs.Media.{made, Media, Opened, rests, mends}
 use Rattle.media.proofs.Keeps.{written-pages, written_on, read_back, store_media}
 use Rattle.routes.proofs.Told.{fetched_as}
 use Rattle.routes.proofs.Comes.{reads_as, comes}
-use Rattle.routes.proofs.Kept.{page-meant, Kept, kept-none, EndsSo}
+use Rattle.routes.proofs.Kept.{page_meant, Kept, kept-none, EndsSo}
 
 -- the plan by what was read of the page and what its chain gives
 abbrev plan_of : ℕ → ℕ → Option (Image Key Value) → Built Key Value → Plan (Image Key Value)
@@ -69,28 +69,28 @@ module _ (says : Says) (r : Ranked says) (added : Added) where
       → fetching says w p ≡ plan_of p ((made says r added).newest p) (Passed w p) (Chained w p)
   unfolding fetching
   fetching-is w m o p =
-      ap (λ (n : ℕ). looked says w p n (disk.reading w.disk p)) (o.newest-is p)
-      ∙ ap (looked says w p ((made says r added).newest p)) (cond-true w.disk.on _ _ o.disk-on)
+      ap (λ (n : ℕ). looked says w p n (disk.reading w.disk p)) (o.newest_is p)
+      ∙ ap (looked says w p ((made says r added).newest p)) (cond-true w.disk.on _ _ o.disk_on)
       ∙ looks says w p ((made says r added).newest p) (page_at w.disk p)
-      ∙ checked-is says w p ((made says r added).newest p) o.journal-on (Passed w p)
+      ∙ checked-is says w p ((made says r added).newest p) o.journal_on (Passed w p)
       ∙ ap (plan_of p ((made says r added).newest p) (Passed w p)) (image-is w m p ((made says r added).newest p))
 
   -- the page is mended
   mended-kept : (w : World) → Media says r added w → Opened says r added w → (p : ℕ) → p < (made says r added).born
-      → page-meant says added w p ≡ Page ((made says r added).page p)
+      → page_meant says added w p ≡ Page ((made says r added).page p)
       → Kept says r added w (stores p (encode_image p ((made says r added).newest p) ((made says r added).page p)) ∷ [])
   mended-kept w m o p b e = record {
-    apt = mends b refl o.disk-on rests;
+    apt = mends b refl o.disk_on rests;
     opened = record {
       some = o.some;
-      disk-on = written_on w.disk p bs o.disk-on;
-      journal-on = o.journal-on;
-      born-is = o.born-is;
-      newest-is = o.newest-is;
+      disk_on = written_on w.disk p bs o.disk_on;
+      journal_on = o.journal_on;
+      born_is = o.born_is;
+      newest_is = o.newest_is;
     };
     media = store_media says r added w m p bs b refl log.lasts page.lasts;
     same = λ q h. written-pages w.disk p bs page.lasts
-        (λ i x. fetched_of i (passes ((made says r added).newest i) (stored_page says i x)) (Chained w i) ≡ page-meant says added w i) (λ i. refl)
+        (λ i x. fetched_of i (passes ((made says r added).newest i) (stored_page says i x)) (Chained w i) ≡ page_meant says added w i) (λ i. refl)
         (passing _ _ _ (Chained w p) (read_back says r added w m p b) ∙ sym e) q;
   }
     where
@@ -103,7 +103,7 @@ module _ (says : Says) (r : Ranked says) (added : Added) where
 
   -- whatever was read of a page, and whatever its chain gives
   plan-kept : (w : World) → Media says r added w → Opened says r added w → (p : ℕ) → p < (made says r added).born
-      → (o : Option (Image Key Value)) (c : Built Key Value) → page-meant says added w p ≡ fetched_of p o c
+      → (o : Option (Image Key Value)) (c : Built Key Value) → page_meant says added w p ≡ fetched_of p o c
       → Kept says r added w (plan_of p ((made says r added).newest p) o c).actions
   plan-kept w m o p b (Some x) c e = kept-none says r m o
   plan-kept w m o p b None (Lost n) e = kept-none says r m o
@@ -117,6 +117,6 @@ module _ (says : Says) (r : Ranked says) (added : Added) where
   ]
 
   pub fetched_so : (w : World) → Media says r added w → Opened says r added w → (p : ℕ) → p < (made says r added).born
-      → EndsSo says r added w (fetching says w p) (fetched_as (page-meant says added w p))
-  fetched_so w m o p b = subst (λ (x : Plan (Image Key Value)). EndsSo says r added w x (fetched_as (page-meant says added w p))) (sym (fetching-is w m o p))
+      → EndsSo says r added w (fetching says w p) (fetched_as (page_meant says added w p))
+  fetched_so w m o p b = subst (λ (x : Plan (Image Key Value)). EndsSo says r added w x (fetched_as (page_meant says added w p))) (sym (fetching-is w m o p))
       (answers p ((made says r added).newest p) (Passed w p) (Chained w p), plan-kept w m o p b (Passed w p) (Chained w p) refl)

@@ -14,8 +14,8 @@ use Rattle.media.proofs.Afters.{after-ok, after_err}
 use Rattle.media.proofs.Plays.{apt-append, apt-done}
 
 -- page p as it is come by in a world
-abbrev pub page-meant : Says → Added → World → ℕ → Fetched Key Value
-page-meant says added w p = fetch (keyed says) empty_key pair_cost kid_cost (meaning says added w) p
+abbrev pub page_meant : Says → Added → World → ℕ → Fetched Key Value
+page_meant says added w p = fetch (keyed says) empty_key pair_cost kid_cost (meaning says added w) p
 
 module _ (says : Says) (r : Ranked says) where
   -- actions that make no change: all that a run keeps is kept, and each born page means what it meant
@@ -23,7 +23,7 @@ module _ (says : Says) (r : Ranked says) where
     pub apt : Apt says r added w xs [] added (done xs w)
     pub opened : Opened says r added (done xs w)
     pub media : Media says r added (done xs w)
-    pub same : (q : ℕ) → q < (made says r added).born → page-meant says added (done xs w) q ≡ page-meant says added w q
+    pub same : (q : ℕ) → q < (made says r added).born → page_meant says added (done xs w) q ≡ page_meant says added w q
 
   pub kept-none : {added : Added} {w : World} → Media says r added w → Opened says r added w → Kept added w []
   kept-none m o = record { apt = rests; opened = o; media = m; same = λ q b. refl }
@@ -36,7 +36,7 @@ module _ (says : Says) (r : Ranked says) where
         apt = subst (λ (v : World). Apt says r added w (xs ++ ys) [] added v) e apt;
         opened = subst (Opened says r added) e b.opened;
         media = subst (Media says r added) e b.media;
-        same = λ q h. sym (ap (λ (v : World). page-meant says added v q) e) ∙ b.same q h ∙ a.same q h;
+        same = λ q h. sym (ap (λ (v : World). page_meant says added v q) e) ∙ b.same q h ∙ a.same q h;
       }
 
   -- a plan that answers so, by actions that make no change

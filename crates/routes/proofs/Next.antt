@@ -95,7 +95,7 @@ module _ (says : Says) (r : Ranked says) (added : Added) where
             → (made says r added).stands i ≡ None
         inside i g h e = elim (cases_lt (r.rank i) (r.rank j)) [
           | inl b ↦ clear i g b
-          | inr b ↦ sym (well.sound.leaves a.leaf a.leaf-born i a.is_leaf (omega (arith, a.holds.0), h)) ∙ e
+          | inr b ↦ sym (well.sound.leaves a.leaf a.leaf_born i a.is_leaf (omega (arith, a.holds.0), h)) ∙ e
         ]
 
         told-above : above (keyed says) k page.pairs ≡ above (by r.rank) k page.pairs
@@ -103,12 +103,12 @@ module _ (says : Says) (r : Ranked says) (added : Added) where
 
         found : (e : Key × Value) → above (keyed says) k page.pairs ≡ Some e → NextAnswer k (Ok (Listed e.0.bytes e.1.bytes))
         found e h =
-            let f = above-some r.rank k _ _ page.pairs e (well.sound.pairs_ascend a.leaf a.leaf-born) (sym told-above ∙ h) in
+            let f = above-some r.rank k _ _ page.pairs e (well.sound.pairs_ascend a.leaf a.leaf_born) (sym told-above ∙ h) in
             inl (
               e,
               refl,
               f.higher,
-              sym (well.sound.leaves a.leaf a.leaf-born e.0 a.is_leaf (f.from_on, f.below)) ∙ f.at,
+              sym (well.sound.leaves a.leaf a.leaf_born e.0 a.is_leaf (f.from_on, f.below)) ∙ f.at,
               λ i b c. inside i b (omega (arith, f.below)) (f.first i b c),
             )
 
@@ -128,8 +128,8 @@ module _ (says : Says) (r : Ranked says) (added : Added) where
               ih u w m o (omega (arith, a.holds.1)) (λ i b c. gone h i b (omega arith))
               (λ l lb ll lh. omega (
                 arith,
-                few a.leaf a.leaf-born a.is_leaf a.holds,
-                left-falls a.leaf l lb (next_low a.leaf l u a.leaf-born lb a.is_leaf ll e lh),
+                few a.leaf a.leaf_born a.is_leaf a.holds,
+                left-falls a.leaf l lb (next_low a.leaf l u a.leaf_born lb a.is_leaf ll e lh),
               ))
 
           above_so : (x : Option (Key × Value)) → above (keyed says) k page.pairs ≡ x → Right w (above_in (seeking says k n) page w x)
@@ -140,7 +140,7 @@ module _ (says : Says) (r : Ranked says) (added : Added) where
       unfolding seeking
       seeks zero j w m o near clear few =
           let t = leaf_on_way r.rank r.top empty_key r.ranking (tree (made says r added)) well.sound j in
-          absurd (omega (arith, few t.leaf t.leaf-born t.is_leaf t.holds))
+          absurd (omega (arith, few t.leaf t.leaf_born t.is_leaf t.holds))
       seeks (suc n) j w m o near clear few = elim (way-told says r added w m o j) [
         | inl a ↦
             let kept = (way_so says r added w m o j).1 in
@@ -163,7 +163,7 @@ module _ (says : Says) (r : Ranked says) (added : Added) where
   pub next_so : (w : World) → Media says r added w → Opened says r added w → (k : Key)
       → (x : Result Reply Refusal) × EndsSo says r added w (seeking says k (suc (born w)) k w) x × NextAnswer k x
   next_so w m o k = seeks (stands_well says r added w m o) k (suc (born w)) k w m o (omega arith) (λ i a b. absurd (omega arith))
-      (λ l b _ _. omega (arith, left_most l, o.born-is))
+      (λ l b _ _. omega (arith, left_most l, o.born_is))
 
   pub next-told : (w : World) → Media says r added w → Opened says r added w → (k : Key)
       → Apt says r added w (seeking says k (suc (born w)) k w).actions [] added (done (seeking says k (suc (born w)) k w).actions w)

@@ -5,7 +5,7 @@ use Rattle.ranks.specs.Lists.{All}
 use Rattle.order.specs.Lawful.{Says}
 use Rattle.tree.specs.Tree.{Image, Holds, frames, Way}
 use Rattle.tree.specs.Log.{tree}
-use Rattle.tree.specs.Walk.{Fetched, Visit, visit, visits, Due, Walked, onto, check, onward_due, walk_on, walk_checked, walk_fetched, walk, due-root}
+use Rattle.tree.specs.Walk.{Fetched, Visit, visit, visits, Due, Walked, onto, check, onward_due, walk_on, walk_checked, walk_fetched, walk, due_root}
 use Rattle.tree.specs.Walk.Fetched.{Page, Failed}
 use Rattle.tree.specs.Walk.Walked.{Met, Stopped}
 use Rattle.tree.specs.Worlds.{goes_to, FirstLost, LostOnWay}
@@ -20,7 +20,7 @@ use Rattle.model.specs.Runs.{Added, meaning}
 use Rattle.media.proofs.Media.{made, Media, Opened, Apt}
 use Rattle.routes.proofs.Told.{told, fetched_as, routed}
 use Rattle.routes.proofs.Comes.{way-comes}
-use Rattle.routes.proofs.Kept.{page-meant, Kept, EndsSo, ends_so, then_so, refused_so}
+use Rattle.routes.proofs.Kept.{page_meant, Kept, EndsSo, ends_so, then_so, refused_so}
 use Rattle.routes.proofs.Fetched.{fetched_so}
 
 module _ (says : Says) (r : Ranked says) (added : Added) (k : Key) (m : ℕ → Fetched Key Value) where
@@ -28,7 +28,7 @@ module _ (says : Says) (r : Ranked says) (added : Added) (k : Key) (m : ℕ → 
   record Stays (w : World) : Type 0 where
     media : Media says r added w
     opened : Opened says r added w
-    means : (q : ℕ) → q < (made says r added).born → page-meant says added w q ≡ m q
+    means : (q : ℕ) → q < (made says r added).born → page_meant says added w q ≡ m q
 
   abbrev So : World → Plan Route → Walked Key Value → Type 0
   So w p z = EndsSo says r added w p (routed z)
@@ -76,7 +76,7 @@ module _ (says : Says) (r : Ranked says) (added : Added) (k : Key) (m : ℕ → 
   going_so : (n : ℕ) → Right (going says k n) (walk (keyed says) m (made says r added).born k n)
   unfolding going
   going_so zero w s p d = ends_so says r s.media s.opened _
-  going_so (suc n) w s p d = either_so w (ltb p (born w)) (ltb p (made says r added).born) (ap (ltb p) s.opened.born-is) _ _ _ _
+  going_so (suc n) w s p d = either_so w (ltb p (born w)) (ltb p (made says r added).born) (ap (ltb p) s.opened.born_is) _ _ _ _
       (λ t. born-on (going says k n) (walk (keyed says) m (made says r added).born k n) (going_so n) w s p d (ltb-true p (made says r added).born t))
       (ends_so says r s.media s.opened _)
 
@@ -87,16 +87,16 @@ module _ (says : Says) (r : Ranked says) (added : Added) where
   unfolding way
   way_so w m o k =
       let n = (made says r added).born in
-      let t = going_so says r added k (page-meant says added w) (suc n) w (record { media = m; opened = o; means = λ q b. refl }) 0 (due-root empty_key) in
-      subst (λ (i : ℕ). EndsSo says r added w (going says k (suc i) w 0 (due-root empty_key)) (routed (goes_to (keyed says) empty_key pair_cost kid_cost (meaning says added w) k)))
-      (sym o.born-is) t
+      let t = going_so says r added k (page_meant says added w) (suc n) w (record { media = m; opened = o; means = λ q b. refl }) 0 (due_root empty_key) in
+      subst (λ (i : ℕ). EndsSo says r added w (going says k (suc i) w 0 (due_root empty_key)) (routed (goes_to (keyed says) empty_key pair_cost kid_cost (meaning says added w) k)))
+      (sym o.born_is) t
 
   pub way-means : (w : World) → Media says r added w → Opened says r added w → (k : Key)
       → ((way says w k).answer ≡ routed (goes_to (keyed says) empty_key pair_cost kid_cost (meaning says added w) k))
       × Apt says r added w (way says w k).actions [] added (done (way says w k).actions w)
       × Opened says r added (done (way says w k).actions w)
       × Media says r added (done (way says w k).actions w)
-      × ((q : ℕ) → q < (made says r added).born → page-meant says added (done (way says w k).actions w) q ≡ page-meant says added w q)
+      × ((q : ℕ) → q < (made says r added).born → page_meant says added (done (way says w k).actions w) q ≡ page_meant says added w q)
   way-means w m o k =
       let t = way_so w m o k in
       let a = t.1 in
@@ -107,10 +107,10 @@ module _ (says : Says) (r : Ranked says) (added : Added) where
     pub pages : List ℕ
     pub leaf : ℕ
     pub way : Way (keyed says) (frames (tree (made says r added))) k 0 pages leaf
-    pub leaf-born : leaf < (made says r added).born
+    pub leaf_born : leaf < (made says r added).born
     pub is_leaf : ((made says r added).page leaf).frame.level ≡ 0
     pub holds : Holds r.rank r.top ((made says r added).page leaf).frame k
-    pub all-born : All (λ p. p < (made says r added).born) pages
+    pub all_born : All (λ p. p < (made says r added).born) pages
 
   -- the way comes to the key's leaf, or tells the first page on it that cannot be had
   pub way-told : (w : World) → Media says r added w → Opened says r added w → (k : Key)
@@ -121,9 +121,9 @@ module _ (says : Says) (r : Ranked says) (added : Added) where
       × FirstLost (keyed says) empty_key pair_cost kid_cost (meaning says added w) k p n)
   way-told w m o k = let t = (way_so w m o k).0 in elim (way-comes says r added w m o k) [
     | inl a ↦ inl (
-      record { pages = a.pages; leaf = a.leaf; way = a.way; leaf-born = a.leaf-born; is_leaf = a.is_leaf; holds = a.holds; all-born = a.all-born },
+      record { pages = a.pages; leaf = a.leaf; way = a.way; leaf_born = a.leaf_born; is_leaf = a.is_leaf; holds = a.holds; all_born = a.all_born },
       t ∙ ap routed a.comes_to,
-      a.none-lost,
+      a.none_is_lost,
     )
     | inr a ↦ inr (a.0, a.1, t ∙ ap routed a.2, a.3)
   ]

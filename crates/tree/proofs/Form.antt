@@ -2,13 +2,13 @@
 use Rattle.std.proofs.Common.{◌≡◌, ℕ, zero, suc, ◌<◌, ◌≤◌, Bool, true, false, cond, not, eqb, ltb, List, [], ◌∷◌, Some, None, Option, sym, refl, ap, ◌∙◌, subst, inl, inr, arith}
 use Rattle.std.proofs.Math.Dec.{is_le, compare_is_eq}
 use Rattle.tree.specs.Rows.{set, find, upto, from, Ascends, by}
-use Rattle.tree.specs.Tree.{Frame, Image, Ranking, edge, upper, upper_of, lower-image, upper-image, ceding-image, gaining-image}
+use Rattle.tree.specs.Tree.{Frame, Image, Ranking, edge, upper, upper_of, lower_image, upper_image, ceding_image, gaining_image}
 use Rattle.tree.specs.Log.{Change, Rec, Source, source, source_of, make, blank, Built, then_make, at_source, at_slot, rebuild}
 use Rattle.tree.specs.Log.Change.{Format, Put, Remove, Foster, Adopt, Grow}
 use Rattle.tree.specs.Log.Source.{Out, Fresh, Earlier}
 use Rattle.tree.specs.Log.Built.{Done, Lost, Misfit}
-use Rattle.tree.specs.Halves.{some, divides-row}
-use Rattle.tree.specs.Suits.{below, in_bounds, is-foster, divides-page, adopts, suits, Form, first_of}
+use Rattle.tree.specs.Halves.{some, divides_row}
+use Rattle.tree.specs.Suits.{below, in_bounds, is_foster, divides_page, adopts, suits, Form, first_of}
 use Rattle.tree.proofs.Rows.{set-ascends, without-ascends, upto-ascends, from-ascends, find-below, less-true}
 use Rattle.tree.proofs.Upd.{none-some}
 use Rattle.std.proofs.lemmas.Bool.{cond_both, cases_lt, leb-true, and_parts}
@@ -35,7 +35,7 @@ module _ {K A : Type 0} (rank : K → ℕ) where
     entry : find (by rank) d es ≡ Some value
     above : a < rank d
 
-  inner : (d : K) (a b : ℕ) (es : List (K × A)) → Ascends rank a es b → divides-row (by rank) d es ≡ true → Inner d es a
+  inner : (d : K) (a b : ℕ) (es : List (K × A)) → Ascends rank a es b → divides_row (by rank) d es ≡ true → Inner d es a
   inner d a b [] n t = let z : ◌≡◌ {A = ℕ} 0 1 = cc in absurd (omega arith)
   inner d a b (e ∷ es) n t =
       let p = and_parts (not (compare_is_eq (by rank d e.0))) (some (find (by rank) d es)) t in
@@ -74,67 +74,67 @@ module _ {K A : Type 0} (rank : K → ℕ) where
       let g : rank k ≡ rank x.0 → k ≡ x.0 = inj k x.0 in
       grind arith
 
-module _ {K V : Type 0} (rank : K → ℕ) (top : ℕ) (least : K) (ranked : Ranking rank top least) (pair-cost : K × V → ℕ) (kid-cost : K × ℕ → ℕ) where
+module _ {K V : Type 0} (rank : K → ℕ) (top : ℕ) (least : K) (ranked : Ranking rank top least) (pair_cost : K × V → ℕ) (kid_cost : K × ℕ → ℕ) where
   abbrev ok : Change K V → ℕ → Image K V → Bool
-  ok = suits (by rank) pair-cost kid-cost
+  ok = suits (by rank) pair_cost kid_cost
 
   blank-formed : Form rank top (blank {V = V} (by rank) least)
   blank-formed = record
-      { spans = ranked.below_top least; foster-below = λ f e. absurd (none-some f e); pairs_ascend = tt; kids_ascend = tt; first-is = λ l e. absurd (omega arith) }
+      { spans = ranked.below_top least; foster_below = λ f e. absurd (none-some f e); pairs_ascend = tt; kids_ascend = tt; first_is = λ l e. absurd (omega arith) }
 
   upper-high : (x : Image K V) → Form rank top x → edge rank top (upper x.frame) ≤ edge rank top x.frame.high
   upper-high x form = go x.frame.foster refl
     where
       go : (o : Option (K × ℕ)) → x.frame.foster ≡ o → edge rank top (upper x.frame) ≤ edge rank top x.frame.high
       go None e = grind arith
-      go (Some f) e = let t = form.foster-below f e in grind arith
+      go (Some f) e = let t = form.foster_below f e in grind arith
 
   -- a dividing key is above the low fence, and an entry of a branch
   record Cut (d : K) (x : Image K V) : Type 0 where
     above : rank x.frame.low < rank d
-    below-is : rank d < edge rank top (upper x.frame)
+    below_is : rank d < edge rank top (upper x.frame)
     entry : (l : ℕ) → x.frame.level ≡ suc l → (c : ℕ) × (find (by rank) d x.frame.kids ≡ Some c)
 
-  cut : (d : K) (x : Image K V) → Form rank top x → in_bounds (by rank) d x.frame ≡ true → divides-page (by rank) pair-cost kid-cost d x.frame.level x ≡ true → Cut d x
+  cut : (d : K) (x : Image K V) → Form rank top x → in_bounds (by rank) d x.frame ≡ true → divides_page (by rank) pair_cost kid_cost d x.frame.level x ≡ true → Cut d x
   cut d x form i t = go x.frame.level refl t
     where
-      go : (l : ℕ) → x.frame.level ≡ l → divides-page (by rank) pair-cost kid-cost d l x ≡ true → Cut d x
+      go : (l : ℕ) → x.frame.level ≡ l → divides_page (by rank) pair_cost kid_cost d l x ≡ true → Cut d x
       go zero e s = record {
         above = (inner rank d _ _ x.pairs form.pairs_ascend s).above;
-        below-is = (bounded rank top least ranked x.frame d i).1;
+        below_is = (bounded rank top least ranked x.frame d i).1;
         entry = λ l j. absurd (omega arith);
       }
       go (suc l) e s =
           let n = inner rank d _ _ x.frame.kids form.kids_ascend s in
-          record { above = n.above; below-is = (bounded rank top least ranked x.frame d i).1; entry = λ _ _. (n.value, n.entry) }
+          record { above = n.above; below_is = (bounded rank top least ranked x.frame d i).1; entry = λ _ _. (n.value, n.entry) }
 
-  ceded : (k : K) (c : ℕ) (x : Image K V) → Form rank top x → is-foster (by rank) k c x.frame.foster ≡ true → Form rank top (ceding-image (by rank) least k x)
+  ceded : (k : K) (c : ℕ) (x : Image K V) → Form rank top x → is_foster (by rank) k c x.frame.foster ≡ true → Form rank top (ceding_image (by rank) least k x)
   ceded k c x form t = record {
     spans = subst (λ n. rank x.frame.low < n) same form.spans;
-    foster-below = λ f e. absurd (none-some f e);
+    foster_below = λ f e. absurd (none-some f e);
     pairs_ascend = subst (λ n. Ascends rank (rank x.frame.low) x.pairs n) same form.pairs_ascend;
     kids_ascend = subst (λ n. Ascends rank (rank x.frame.low) x.frame.kids n) same form.kids_ascend;
-    first-is = form.first-is;
+    first_is = form.first_is;
   }
     where
-      go : (o : Option (K × ℕ)) → is-foster (by rank) k c o ≡ true → edge rank top (upper_of o x.frame.high) ≡ rank k
+      go : (o : Option (K × ℕ)) → is_foster (by rank) k c o ≡ true → edge rank top (upper_of o x.frame.high) ≡ rank k
       go None e = let z : ◌≡◌ {A = ℕ} 0 1 = cc in absurd (omega arith)
       go (Some f) e = let h = (and_parts (compare_is_eq (by rank k f.0)) (eqb c f.1) e).0 in grind arith
 
       same : edge rank top (upper x.frame) ≡ rank k
       same = go x.frame.foster t
 
-  gained : (k : K) (c : ℕ) (x : Image K V) → Form rank top x → (l : ℕ) → x.frame.level ≡ l → adopts (by rank) pair-cost kid-cost k c l x ≡ true
-      → Form rank top (gaining-image (by rank) least k c x)
+  gained : (k : K) (c : ℕ) (x : Image K V) → Form rank top x → (l : ℕ) → x.frame.level ≡ l → adopts (by rank) pair_cost kid_cost k c l x ≡ true
+      → Form rank top (gaining_image (by rank) least k c x)
   gained k c x form zero i t = let z : ◌≡◌ {A = ℕ} 0 1 = cc in absurd (omega arith)
   gained k c x form (suc l) i t =
       let h = bounded rank top least ranked x.frame k (and_parts (in_bounds (by rank) k x.frame) _ t).0 in
       record {
         spans = form.spans;
-        foster-below = form.foster-below;
+        foster_below = form.foster_below;
         pairs_ascend = form.pairs_ascend;
         kids_ascend = set-ascends rank _ _ k c x.frame.kids form.kids_ascend h.0 h.1;
-        first-is = λ m e. first-set rank ranked.one x.frame.low k c x.frame.kids (form.first-is m e) h.0;
+        first_is = λ m e. first-set rank ranked.one x.frame.low k c x.frame.kids (form.first_is m e) h.0;
       }
 
   made-formed : (c : Change K V) (p : ℕ) (x : Image K V) → ok c p x ≡ true → Form rank top x → Form rank top (make (by rank) least c p x)
@@ -143,46 +143,46 @@ module _ {K V : Type 0} (rank : K → ℕ) (top : ℕ) (least : K) (ranked : Ran
       let i = bounded rank top least ranked x.frame k (and_parts (in_bounds (by rank) k x.frame) _ (and_parts (eqb x.frame.level 0) _ t).1).0 in
       record {
         spans = form.spans;
-        foster-below = form.foster-below;
+        foster_below = form.foster_below;
         pairs_ascend = set-ascends rank _ _ k v x.pairs form.pairs_ascend i.0 i.1;
         kids_ascend = form.kids_ascend;
-        first-is = form.first-is;
+        first_is = form.first_is;
       }
   made-formed (Remove q k) p x t form = record {
     spans = form.spans;
-    foster-below = form.foster-below;
+    foster_below = form.foster_below;
     pairs_ascend = without-ascends rank _ _ k x.pairs form.pairs_ascend;
     kids_ascend = form.kids_ascend;
-    first-is = form.first-is;
+    first_is = form.first_is;
   }
   made-formed (Foster q o d) p x t form =
       let h = and_parts (in_bounds (by rank) d x.frame) _ t in
       let n = cut d x form h.0 h.1 in
-      cond_both (eqb p o) (upper-image (by rank) least d x) (lower-image (by rank) least d o x) (Form rank top)
+      cond_both (eqb p o) (upper_image (by rank) least d x) (lower_image (by rank) least d o x) (Form rank top)
       (λ _. record {
-        spans = n.below-is;
-        foster-below = form.foster-below;
+        spans = n.below_is;
+        foster_below = form.foster_below;
         pairs_ascend = from-ascends rank _ _ d x.pairs form.pairs_ascend;
         kids_ascend = from-ascends rank _ _ d x.frame.kids form.kids_ascend;
-        first-is = λ l e. let c = n.entry l e in first-from rank ranked.one d c.0 _ _ x.frame.kids form.kids_ascend c.1;
+        first_is = λ l e. let c = n.entry l e in first-from rank ranked.one d c.0 _ _ x.frame.kids form.kids_ascend c.1;
       })
       (λ _. record {
         spans = n.above;
-        foster-below = λ f e. let u : d ≡ f.0 = ap (λ w. elim w [ None ↦ d | Some z ↦ z.0 ]) e in omega (arith, ap rank u, n.below-is, upper-high x form);
+        foster_below = λ f e. let u : d ≡ f.0 = ap (λ w. elim w [ None ↦ d | Some z ↦ z.0 ]) e in omega (arith, ap rank u, n.below_is, upper-high x form);
         pairs_ascend = upto-ascends rank _ _ d x.pairs form.pairs_ascend;
         kids_ascend = upto-ascends rank _ _ d x.frame.kids form.kids_ascend;
-        first-is = λ l e. first-upto rank x.frame.low d x.frame.kids (form.first-is l e) n.above;
+        first_is = λ l e. first-upto rank x.frame.low d x.frame.kids (form.first_is l e) n.above;
       })
-  made-formed (Adopt q o k c) p x t form = cond_both (eqb p o) (ceding-image (by rank) least k x) (gaining-image (by rank) least k c x) (Form rank top)
-      (λ e. ceded k c x form (sym (ap (λ b. cond b (is-foster (by rank) k c x.frame.foster) (adopts (by rank) pair-cost kid-cost k c x.frame.level x)) e) ∙ t))
-      (λ e. gained k c x form x.frame.level refl (sym (ap (λ b. cond b (is-foster (by rank) k c x.frame.foster) (adopts (by rank) pair-cost kid-cost k c x.frame.level x)) e) ∙ t))
+  made-formed (Adopt q o k c) p x t form = cond_both (eqb p o) (ceding_image (by rank) least k x) (gaining_image (by rank) least k c x) (Form rank top)
+      (λ e. ceded k c x form (sym (ap (λ b. cond b (is_foster (by rank) k c x.frame.foster) (adopts (by rank) pair_cost kid_cost k c x.frame.level x)) e) ∙ t))
+      (λ e. gained k c x form x.frame.level refl (sym (ap (λ b. cond b (is_foster (by rank) k c x.frame.foster) (adopts (by rank) pair_cost kid_cost k c x.frame.level x)) e) ∙ t))
   made-formed (Grow o) p x t form = cond_both (eqb p 0) _ x (Form rank top)
       (λ _. record {
         spans = ranked.below_top least;
-        foster-below = λ f e. absurd (none-some f e);
+        foster_below = λ f e. absurd (none-some f e);
         pairs_ascend = tt;
         kids_ascend = (omega arith, ranked.below_top least, tt);
-        first-is = λ l e. refl;
+        first_is = λ l e. refl;
       })
       (λ _. form)
 
@@ -220,7 +220,7 @@ module _ {K V : Type 0} (rank : K → ℕ) (top : ℕ) (least : K) (ranked : Ran
       from-source : (r : Rec K V) (w : Source) → source r p ≡ w → at_source (by rank) least ok r.change p n (rebuild (by rank) least ok read f) w ≡ Done x
           → ((q m : ℕ) (y : Image K V) → rebuild (by rank) least ok read f q m ≡ Done y → Form rank top y) → Form rank top x
       from-source r Out j i ih = absurd (misfit-done n x i)
-      from-source r Fresh j i ih = subst (Form rank top) (done-is (make (by rank) least r.change p (blank (by rank) least)) x i) (fresh-formed r.change r.prev r.prev-other p j)
+      from-source r Fresh j i ih = subst (Form rank top) (done-is (make (by rank) least r.change p (blank (by rank) least)) x i) (fresh-formed r.change r.prev r.prev_other p j)
       from-source r (Earlier q m) j i ih = go (ltb m n) i
         where
           go : (t : Bool) → cond t (then_make n (ok r.change p) (make (by rank) least r.change p) (rebuild (by rank) least ok read f q m)) (Misfit n) ≡ Done x → Form rank top x

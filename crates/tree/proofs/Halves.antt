@@ -1,6 +1,6 @@
 use Rattle.std.proofs.Common.{◌≡◌, ℕ, suc, ◌+◌, ◌*◌, ◌<◌, ◌≤◌, true, cond, List, [], ◌∷◌, Some, sym, refl, ap, ◌∙◌, inl, inr, arith}
 use Rattle.tree.specs.Rows.{find, upto, from, Ascends, by}
-use Rattle.tree.specs.Halves.{total, some, divides-row, first_key, key-after, Cheap, Divides}
+use Rattle.tree.specs.Halves.{total, some, divides_row, first_key, key_after, Cheap, Divides}
 use Rattle.tree.proofs.Rows.{upto-none}
 use Rattle.std.proofs.lemmas.Bool.{cases_lt, le-leb, lt-leb}
 
@@ -21,7 +21,7 @@ module _ {K A : Type 0} (rank : K → ℕ) (cost : K × A → ℕ) where
   find-here : (e : K × A) (es : List (K × A)) → find (by rank) e.0 (e ∷ es) ≡ Some e.1
   find-here e es = grind arith
 
-  inner-row : (d : K) (v : A) (e : K × A) (es : List (K × A)) → rank e.0 < rank d → find (by rank) d (e ∷ es) ≡ Some v → divides-row (by rank) d (e ∷ es) ≡ true
+  inner-row : (d : K) (v : A) (e : K × A) (es : List (K × A)) → rank e.0 < rank d → find (by rank) d (e ∷ es) ≡ Some v → divides_row (by rank) d (e ∷ es) ≡ true
   inner-row d v e es h g =
       let t : find (by rank) d es ≡ Some v = sym (find_cons d e es h) ∙ g in
       let u = ap some t in
@@ -30,7 +30,7 @@ module _ {K A : Type 0} (rank : K → ℕ) (cost : K × A → ℕ) where
   record Split (t n m : ℕ) (e : K × A) (es : List (K × A)) (b : ℕ) : Type 0 where
     key : K
     value : A
-    is : key-after cost t n (e ∷ es) ≡ Some key
+    is : key_after cost t n (e ∷ es) ≡ Some key
     above : rank e.0 < rank key
     below : rank key < b
     entry : find (by rank) key (e ∷ es) ≡ Some value
@@ -52,7 +52,7 @@ module _ {K A : Type 0} (rank : K → ℕ) (cost : K × A → ℕ) where
         record {
           key = r.key;
           value = r.value;
-          is = ap (λ o. cond o (first_key cost (f ∷ es)) (key-after cost t (n + cost e) (f ∷ es))) u ∙ i;
+          is = ap (λ o. cond o (first_key cost (f ∷ es)) (key_after cost t (n + cost e) (f ∷ es))) u ∙ i;
           above = x;
           below = r.below;
           entry = find_cons r.key e (f ∷ es) x ∙ v;
@@ -68,7 +68,7 @@ module _ {K A : Type 0} (rank : K → ℕ) (cost : K × A → ℕ) where
         record {
           key = f.0;
           value = f.1;
-          is = ap (λ o. cond o (first_key cost (f ∷ es)) (key-after cost t (n + cost e) (f ∷ es))) u;
+          is = ap (λ o. cond o (first_key cost (f ∷ es)) (key_after cost t (n + cost e) (f ∷ es))) u;
           above = x;
           below = asc.2.1;
           entry = find_cons f.0 e (f ∷ es) x ∙ find-here f es;

@@ -28,17 +28,17 @@ module _ {K V : Type 0} (rank : K → ℕ) (top : ℕ) (least : K) (ranked : Ran
     inside : (i : K) → rank k < rank i → rank i < edge rank top (upper page.frame) → find (by rank) i page.pairs ≡ None → s.stands i ≡ None
     inside i g h e = elim (cases_lt (rank i) (rank j)) [
       | inl a ↦ clear i g a
-      | inr a ↦ sym (sound.leaves x.leaf x.leaf-born i x.is_leaf (omega (arith, x.holds.0), h)) ∙ e
+      | inr a ↦ sym (sound.leaves x.leaf x.leaf_born i x.is_leaf (omega (arith, x.holds.0), h)) ∙ e
     ]
 
     found : (e : K × V) → above (by rank) k page.pairs ≡ Some e → Result j
     found e w =
-        let f = above-some rank k _ _ page.pairs e (sound.pairs_ascend x.leaf x.leaf-born) w in (
+        let f = above-some rank k _ _ page.pairs e (sound.pairs_ascend x.leaf x.leaf_born) w in (
           Some e,
           hit x.way w,
           (
             (let t = f.higher in grind arith),
-            sym (sound.leaves x.leaf x.leaf-born e.0 x.is_leaf (f.from_on, f.below)) ∙ f.at,
+            sym (sound.leaves x.leaf x.leaf_born e.0 x.is_leaf (f.from_on, f.below)) ∙ f.at,
             λ i a b. inside i (less-true (rank k) (rank i) a) (omega (arith, f.below, less-true (rank i) (rank e.0) b))
                 (f.first i (less-true (rank k) (rank i) a) (less-true (rank i) (rank e.0) b)),
           ),

@@ -12,7 +12,7 @@ module _ {K V : Type 0} (rank : K → ℕ) (top : ℕ) (least : K) (s : State K 
   alone : (q : ℕ) → (q ≡ p → ⊥) → q < s.born → (j : K) → (s.page q).frame.level ≡ 0 → Holds rank top (s.page q).frame j
       → rank j ≡ rank k → ⊥
   alone q n b j l h e =
-      n (sound.shape.apart q b p may.is-born j (l ∙ sym may.leaf) h (omega arith, omega arith))
+      n (sound.shape.apart q b p may.is_born j (l ∙ sym may.leaf) h (omega arith, omega arith))
 
   pub put-stays : (v : V) → Sound rank top least (put (by rank) least p k v s)
   put-stays v = record {

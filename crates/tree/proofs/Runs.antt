@@ -8,8 +8,8 @@ use Rattle.tree.specs.Log.{Change, Rec, Source, source, touched, made, standing,
 use Rattle.tree.specs.Log.Change.{Format, Put, Remove, Foster, Adopt, Grow}
 use Rattle.tree.specs.Log.Source.{Out, Fresh, Earlier}
 use Rattle.tree.specs.Halves.{total, divider}
-use Rattle.tree.specs.Plan.{linked, changed, changes, planned-put, divided-put, planned_tend, divided-branch, step-or, steps-below, rootwards, MayAll}
-use Rattle.tree.specs.Plan.{all-linked, Begins}
+use Rattle.tree.specs.Plan.{linked, changed, changes, planned_put, put_divided, planned_tend, divided_branch, step_else, steps_under, rootwards, MayAll}
+use Rattle.tree.specs.Plan.{all_linked, Begins}
 use Rattle.tree.specs.Plan.Begins.{nothing, more}
 use Rattle.tree.proofs.Kept.{stays}
 use Rattle.std.proofs.lemmas.Bool.{cond_both}
@@ -19,7 +19,7 @@ module _ {K V : Type 0} (cmp : K → K → Ordering) (least : K) where
   run-append s [] qs = refl
   run-append s (r ∷ rs) qs = run-append (append cmp least r s) rs qs
 
-  pub run-linked : (s : Logged K V) (cs : List (Change K V)) → run cmp least s (all-linked cmp least s cs) ≡ changes cmp least s cs
+  pub run-linked : (s : Logged K V) (cs : List (Change K V)) → run cmp least s (all_linked cmp least s cs) ≡ changes cmp least s cs
   run-linked s [] = refl
   run-linked s (c ∷ cs) = run-linked (changed cmp least s c) cs
 
@@ -28,9 +28,9 @@ module _ {K V : Type 0} (cmp : K → K → Ordering) (least : K) where
   link-append suits s (r ∷ rs) qs l m = (l.0, link-append suits (append cmp least r s) rs qs l.1 m)
 
   -- what stands after some changes
-  abbrev pub standing-all : List (Change K V) → (K → Option V) → K → Option V
-  standing-all [] f = f
-  standing-all (c ∷ cs) f = standing-all cs (standing cmp least c f)
+  abbrev pub standing_all : List (Change K V) → (K → Option V) → K → Option V
+  standing_all [] f = f
+  standing_all (c ∷ cs) f = standing_all cs (standing cmp least c f)
 
   changed-stands : (s : Logged K V) (c : Change K V) → (changed cmp least s c).stands ≡ standing cmp least c s.stands
   changed-stands s Format = refl
@@ -40,9 +40,9 @@ module _ {K V : Type 0} (cmp : K → K → Ordering) (least : K) where
   changed-stands s (Adopt p o k c) = refl
   changed-stands s (Grow o) = refl
 
-  pub changes-stand : (s : Logged K V) (cs : List (Change K V)) → (changes cmp least s cs).stands ≡ standing-all cs s.stands
+  pub changes-stand : (s : Logged K V) (cs : List (Change K V)) → (changes cmp least s cs).stands ≡ standing_all cs s.stands
   changes-stand s [] = refl
-  changes-stand s (c ∷ cs) = changes-stand (changed cmp least s c) cs ∙ ap (standing-all cs) (changed-stands s c)
+  changes-stand s (c ∷ cs) = changes-stand (changed cmp least s c) cs ∙ ap (standing_all cs) (changed-stands s c)
 
   -- a page is left out of a change, or its newest position rises
   moved_once : (s : Logged K V) (c : Change K V) → ((p : ℕ) → s.newest p ≤ s.count) → (p : ℕ)
@@ -82,21 +82,21 @@ module _ {K V : Type 0} (cmp : K → K → Ordering) (least : K) where
   within-run s [] within = within
   within-run s (r ∷ rs) within = within-run (append cmp least r s) rs (within_once s r within)
 
-abbrev pub is-put : {K V : Type 0} → Change K V → Bool
-is-put Format = false
-is-put (Put p k v) = true
-is-put (Remove p k) = false
-is-put (Foster p o d) = false
-is-put (Adopt p o k c) = false
-is-put (Grow o) = false
+abbrev pub is_put : {K V : Type 0} → Change K V → Bool
+is_put Format = false
+is_put (Put p k v) = true
+is_put (Remove p k) = false
+is_put (Foster p o d) = false
+is_put (Adopt p o k c) = false
+is_put (Grow o) = false
 
-abbrev pub is-remove : {K V : Type 0} → Change K V → Bool
-is-remove Format = false
-is-remove (Put p k v) = false
-is-remove (Remove p k) = true
-is-remove (Foster p o d) = false
-is-remove (Adopt p o k c) = false
-is-remove (Grow o) = false
+abbrev pub is_remove : {K V : Type 0} → Change K V → Bool
+is_remove Format = false
+is_remove (Put p k v) = false
+is_remove (Remove p k) = true
+is_remove (Foster p o d) = false
+is_remove (Adopt p o k c) = false
+is_remove (Grow o) = false
 
 abbrev pub any : {A : Type 0} → (A → Bool) → List A → Bool
 any f [] = false
@@ -137,7 +137,7 @@ module _ {K V : Type 0} where
   each-begins P (more b) h = (h.0, each-begins P b h.1)
 
 module _ {K V : Type 0} (cmp : K → K → Ordering) (least : K) where
-  pub quiet_stands : (cs : List (Change K V)) (f : K → Option V) → Each Quiet cs → (j : K) → standing-all cmp least cs f j ≡ f j
+  pub quiet_stands : (cs : List (Change K V)) (f : K → Option V) → Each Quiet cs → (j : K) → standing_all cmp least cs f j ≡ f j
   quiet_stands [] f h j = refl
   quiet_stands (Format ∷ cs) f h j = quiet_stands cs f h.1 j
   quiet_stands (Put p k v ∷ cs) f h j = absurd h.0
@@ -148,7 +148,7 @@ module _ {K V : Type 0} (cmp : K → K → Ordering) (least : K) where
 
   -- a put's changes set its key, if its own record is among them
   pub putting-stands : (k : K) (v : V) (cs : List (Change K V)) (f : K → Option V) → Each (Putting k v) cs → (j : K)
-      → standing-all cmp least cs f j ≡ cond (any is-put cs) (cond (compare_is_eq (cmp j k)) (Some v) (f j)) (f j)
+      → standing_all cmp least cs f j ≡ cond (any is_put cs) (cond (compare_is_eq (cmp j k)) (Some v) (f j)) (f j)
   putting-stands k v [] f h j = refl
   putting-stands k v (Format ∷ cs) f h j = putting-stands k v cs f h.1 j
   putting-stands k v (Put p i u ∷ cs) f h j =
@@ -160,7 +160,7 @@ module _ {K V : Type 0} (cmp : K → K → Ordering) (least : K) where
   putting-stands k v (Grow o ∷ cs) f h j = putting-stands k v cs f h.1 j
 
   pub removing-stands : (k : K) (cs : List (Change K V)) (f : K → Option V) → Each (Removing k) cs → (j : K)
-      → standing-all cmp least cs f j ≡ cond (any is-remove cs) (cond (compare_is_eq (cmp j k)) None (f j)) (f j)
+      → standing_all cmp least cs f j ≡ cond (any is_remove cs) (cond (compare_is_eq (cmp j k)) None (f j)) (f j)
   removing-stands k [] f h j = refl
   removing-stands k (Format ∷ cs) f h j = removing-stands k cs f h.1 j
   removing-stands k (Put p i u ∷ cs) f h j = absurd h.0
@@ -176,12 +176,12 @@ module _ {K V : Type 0} (rank : K → ℕ) (top : ℕ) (least : K) (ranked : Ran
   pub link_once : (s : Logged K V) (c : Change K V) → May rank top least c s → Sound rank top least (tree s) → ((p : ℕ) → p < s.born → 0 < s.newest p)
       → (p q n : ℕ) → source (linked s c) p ≡ Earlier q n → (n ≡ s.newest q) × (0 < n)
   link_once s Format may sound pos p q n e = absurd (omega (arith, sound.shape.any, ap (λ t. t.born) may))
-  link_once s (Put o k v) may sound pos p q n e = let t = pos o may.is-born in (grind arith, grind arith)
-  link_once s (Remove o k) may sound pos p q n e = let t = pos o may.is-born in (grind arith, grind arith)
-  link_once s (Foster o r d) may sound pos p q n e = let t = pos o may.1.is-born in (grind arith, grind arith)
+  link_once s (Put o k v) may sound pos p q n e = let t = pos o may.is_born in (grind arith, grind arith)
+  link_once s (Remove o k) may sound pos p q n e = let t = pos o may.is_born in (grind arith, grind arith)
+  link_once s (Foster o r d) may sound pos p q n e = let t = pos o may.1.is_born in (grind arith, grind arith)
   link_once s (Adopt o y k c) may sound pos p q n e =
-      let t = pos o may.is-born in
-      let b = (sound.shape.children o may.is-born may.below may.key may.level may.holds).is-born in
+      let t = pos o may.is_born in
+      let b = (sound.shape.children o may.is_born may.below may.key may.level may.holds).is_born in
       let u = pos y (omega (arith, b, may.leads)) in
       (grind arith, grind arith)
   link_once s (Grow o) may sound pos p q n e = let t = pos 0 sound.shape.any in (grind arith, grind arith)
@@ -212,38 +212,38 @@ module _ {K V : Type 0} (rank : K → ℕ) (top : ℕ) (least : K) (ranked : Ran
   may-begins s (more {c = c} b) may = (may.0, may-begins (changed (by rank) least s c) b may.1)
 
 -- what the plans are made of
-module _ {K V : Type 0} (cmp : K → K → Ordering) (pair-cost : K × V → ℕ) (kid-cost : K × ℕ → ℕ) where
-  pub put-puts : (s : Logged K V) (p : ℕ) (k : K) (v : V) → Each (Putting k v) (planned-put cmp pair-cost kid-cost s p k v)
-  put-puts s p k v = cond_both (leb (total pair-cost (set cmp k v (s.page p).pairs)) 436) (Put p k v ∷ []) (divided-put cmp pair-cost kid-cost p s.born k v (divider pair-cost (s.page p).pairs)) (Each (Putting k v)) (λ _. ((refl, refl), tt)) (λ _. go (divider pair-cost (s.page p).pairs))
+module _ {K V : Type 0} (cmp : K → K → Ordering) (pair_cost : K × V → ℕ) (kid_cost : K × ℕ → ℕ) where
+  pub put-puts : (s : Logged K V) (p : ℕ) (k : K) (v : V) → Each (Putting k v) (planned_put cmp pair_cost kid_cost s p k v)
+  put-puts s p k v = cond_both (leb (total pair_cost (set cmp k v (s.page p).pairs)) 436) (Put p k v ∷ []) (put_divided cmp pair_cost kid_cost p s.born k v (divider pair_cost (s.page p).pairs)) (Each (Putting k v)) (λ _. ((refl, refl), tt)) (λ _. go (divider pair_cost (s.page p).pairs))
     where
-      go : (o : Option K) → Each (Putting k v) (divided-put cmp pair-cost kid-cost p s.born k v o)
+      go : (o : Option K) → Each (Putting k v) (put_divided cmp pair_cost kid_cost p s.born k v o)
       go None = ((refl, refl), tt)
       go (Some d) = (tt, ((refl, refl), tt))
 
-  pub put-own : (s : Logged K V) (p : ℕ) (k : K) (v : V) → any is-put (planned-put cmp pair-cost kid-cost s p k v) ≡ true
-  put-own s p k v = cond_both (leb (total pair-cost (set cmp k v (s.page p).pairs)) 436) (Put p k v ∷ []) (divided-put cmp pair-cost kid-cost p s.born k v (divider pair-cost (s.page p).pairs)) (λ cs. any is-put cs ≡ true) (λ _. refl) (λ _. go (divider pair-cost (s.page p).pairs))
+  pub put-own : (s : Logged K V) (p : ℕ) (k : K) (v : V) → any is_put (planned_put cmp pair_cost kid_cost s p k v) ≡ true
+  put-own s p k v = cond_both (leb (total pair_cost (set cmp k v (s.page p).pairs)) 436) (Put p k v ∷ []) (put_divided cmp pair_cost kid_cost p s.born k v (divider pair_cost (s.page p).pairs)) (λ cs. any is_put cs ≡ true) (λ _. refl) (λ _. go (divider pair_cost (s.page p).pairs))
     where
-      go : (o : Option K) → any is-put (divided-put cmp pair-cost kid-cost p s.born k v o) ≡ true
+      go : (o : Option K) → any is_put (put_divided cmp pair_cost kid_cost p s.born k v o) ≡ true
       go None = refl
       go (Some d) = refl
 
-  steps_quiet : (s : Logged K V) (k : K) (l p : ℕ) → Each Quiet (steps-below cmp pair-cost kid-cost s k l p)
+  steps_quiet : (s : Logged K V) (k : K) (l p : ℕ) → Each Quiet (steps_under cmp pair_cost kid_cost s k l p)
   steps_quiet s k zero p = tt
   steps_quiet s k (suc l) p = go (kid cmp (s.page p).frame k).1 (s.page (kid cmp (s.page p).frame k).1).frame.foster (steps_quiet s k l (kid cmp (s.page p).frame k).1)
     where
-      branch : (q : ℕ) (o : Option K) → Each Quiet (divided-branch cmp pair-cost kid-cost q s.born o)
+      branch : (q : ℕ) (o : Option K) → Each Quiet (divided_branch cmp pair_cost kid_cost q s.born o)
       branch q None = tt
       branch q (Some d) = (tt, tt)
 
-      go : (c : ℕ) (o : Option (K × ℕ)) → Each Quiet (steps-below cmp pair-cost kid-cost s k l c)
-          → Each Quiet (step-or cmp pair-cost kid-cost s p c (steps-below cmp pair-cost kid-cost s k l c) o)
+      go : (c : ℕ) (o : Option (K × ℕ)) → Each Quiet (steps_under cmp pair_cost kid_cost s k l c)
+          → Each Quiet (step_else cmp pair_cost kid_cost s p c (steps_under cmp pair_cost kid_cost s k l c) o)
       go c None h = h
-      go c (Some f) h = cond_both (leb (total kid-cost (set cmp f.0 f.1 (s.page p).frame.kids)) 436) (Adopt p c f.0 f.1 ∷ [])
-          (divided-branch cmp pair-cost kid-cost p s.born (divider kid-cost (s.page p).frame.kids)) (Each Quiet) (λ _. (tt, tt)) (λ _. branch p (divider kid-cost (s.page p).frame.kids))
+      go c (Some f) h = cond_both (leb (total kid_cost (set cmp f.0 f.1 (s.page p).frame.kids)) 436) (Adopt p c f.0 f.1 ∷ [])
+          (divided_branch cmp pair_cost kid_cost p s.born (divider kid_cost (s.page p).frame.kids)) (Each Quiet) (λ _. (tt, tt)) (λ _. branch p (divider kid_cost (s.page p).frame.kids))
 
-  pub tend_quiet : (s : Logged K V) (k : K) → Each Quiet (planned_tend cmp pair-cost kid-cost s k)
+  pub tend_quiet : (s : Logged K V) (k : K) → Each Quiet (planned_tend cmp pair_cost kid_cost s k)
   tend_quiet s k = go (s.page 0).frame.foster
     where
-      go : (o : Option (K × ℕ)) → Each Quiet (rootwards cmp pair-cost kid-cost s k o)
+      go : (o : Option (K × ℕ)) → Each Quiet (rootwards cmp pair_cost kid_cost s k o)
       go None = steps_quiet s k (s.page 0).frame.level 0
       go (Some f) = cond_both (ltb (s.page 0).frame.level 255) (Grow s.born ∷ []) [] (Each Quiet) (λ _. (tt, tt)) (λ _. tt)

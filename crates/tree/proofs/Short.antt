@@ -3,7 +3,7 @@ use Rattle.std.proofs.Common.{◌≡◌, ℕ, zero, suc, ◌+◌, ◌-◌, ◌<�
 use Rattle.std.proofs.Math.Dec.{is_le}
 use Rattle.tree.specs.Rows.{by}
 use Rattle.tree.specs.Tree.{Frame, Image, Ranking, kid, bound}
-use Rattle.tree.specs.Walk.{Fetched, Due, check, entered, onward_due, walk_on, walk_checked, walk_fetched, walk, onto, visit, due-root, Formed}
+use Rattle.tree.specs.Walk.{Fetched, Due, check, entered, onward_due, walk_on, walk_checked, walk_fetched, walk, onto, visit, due_root, Formed}
 use Rattle.tree.specs.Walk.Fault.{Wrong}
 use Rattle.tree.specs.Walk.Fetched.{Page, Failed}
 use Rattle.tree.specs.Walk.Walked.{Stopped}
@@ -68,7 +68,7 @@ module _ {K V : Type 0} (rank : K → ℕ) (top : ℕ) (least : K) (ranked : Ran
             let v = ap (λ b. cond b (Some (f.1, due)) (entered (by rank) k x.frame x.frame.level)) t in
             let w : due ≡ d = second (f.1, due) (q, d) (sym v ∙ j) in
             let h = checked due x.frame.level y refl (subst (λ z. check (by rank) z y ≡ 0) (sym w) c) in
-            omega (arith, h.0, h.1, form.foster-above f i, ranked.below_top f.0)
+            omega (arith, h.0, h.1, form.foster_above f i, ranked.below_top f.0)
         | inr t ↦
             let due : Due K = record { low = f.0; high = x.frame.high; level = Some x.frame.level } in
             let v = ap (λ b. cond b (Some (f.1, due)) (entered (by rank) k x.frame x.frame.level)) t in
@@ -115,6 +115,6 @@ module _ {K V : Type 0} (rank : K → ℕ) (top : ℕ) (least : K) (ranked : Ran
       go true e (Failed f) i ih = refl
       go true e (Page x) i ih = judged x i (ltb-true p born e) ih (check (by rank) d x.frame) refl
 
-  pub way-short : (n : ℕ) → suc born ≤ n → walk (by rank) fetch born k n 0 (due-root least) ≡ walk (by rank) fetch born k (suc born) 0 (due-root least)
-  way-short n h = walk_same n (suc born) 0 (due-root least)
+  pub way-short : (n : ℕ) → suc born ≤ n → walk (by rank) fetch born k n 0 (due_root least) ≡ walk (by rank) fetch born k (suc born) 0 (due_root least)
+  way-short n h = walk_same n (suc born) 0 (due_root least)
       (omega arith, λ x e c b. omega (arith, left_most 0 b)) (omega arith, λ x e c b. omega (arith, left_most 0 b))

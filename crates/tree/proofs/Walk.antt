@@ -2,7 +2,7 @@ use Rattle.std.proofs.Common.{◌≡◌, ℕ, zero, suc, ◌+◌, ◌-◌, ◌<�
 use Rattle.tree.specs.Rows.{by}
 use Rattle.tree.specs.Tree.{Frame, State, Shape, Sound, Points, Ranking, upper, edge, Holds, kid, bound, frames, onward, Way, Found}
 use Rattle.tree.specs.Tree.Way.{ends, goes}
-use Rattle.tree.specs.Walk.{Fetched, Due, same_bound, check, onward_due, walk, or_failed, outcome, Visit, visit, visits, onto, due-root, Honest, Went}
+use Rattle.tree.specs.Walk.{Fetched, Due, same_bound, check, onward_due, walk, or_failed, outcome, Visit, visit, visits, onto, due_root, Honest, Went}
 use Rattle.tree.specs.Walk.Fetched.{Page, Failed}
 use Rattle.tree.specs.Walk.Walked.{Met}
 use Rattle.tree.proofs.Rows.{floor-le, floor_ge, ceil-above}
@@ -43,16 +43,16 @@ module _ {K : Type 0} (rank : K → ℕ) (top : ℕ) (least : K) (ranked : Ranki
 
   fits : (c l : ℕ) (x : K) (u : Option K) → Points born frame c l x u → Fits (record { low = x; high = u; level = Some l }) c
   fits c l x u h =
-      let a = ap rank h.low-is in
+      let a = ap rank h.low_is in
       let b : same_bound (by rank) u (frame c).high ≡ true = subst (λ w. same_bound (by rank) u w ≡ true) (sym h.high_is) (same-bound rank u) in
-      let e = h.level-is in
+      let e = h.level_is in
       grind arith
 
   -- where the way goes on, it goes to a page that is what is due
   record On (p q : ℕ) : Type 0 where
     due : Due K
     is : onward_due (by rank) k (frame p) (frame p).foster ≡ Some (q, due)
-    is-born : q < born
+    is_born : q < born
     fit : Fits due q
     low : rank (frame q).low ≤ rank k
     high : rank k < edge rank top (frame q).high
@@ -64,18 +64,18 @@ module _ {K : Type 0} (rank : K → ℕ) (top : ℕ) (least : K) (ranked : Ranki
       across : (f : K × ℕ) → (frame p).foster ≡ Some f → rank f.0 ≤ rank k → On p f.1
       across f e h =
           let t = shape.fosters p b f e in
-          let x = ap rank t.low-is in
+          let x = ap rank t.low_is in
           let y = ap (edge rank top) t.high_is in
           record {
             due = record { low = f.0; high = (frame p).high; level = Some (frame p).level };
             is = grind arith;
-            is-born = t.is-born;
+            is_born = t.is_born;
             fit = fits f.1 (frame p).level f.0 (frame p).high t;
             low = omega arith;
             high = omega arith;
             falls =
                 let u : edge rank top (upper (frame p)) ≡ rank f.0 = cc in
-                omega (arith, t.level-is, shape.spans p b, ranked.below_top f.0);
+                omega (arith, t.level_is, shape.spans p b, ranked.below_top f.0);
           }
 
       down : (l : ℕ) → (frame p).level ≡ suc l → Holds rank top (frame p) k
@@ -84,16 +84,16 @@ module _ {K : Type 0} (rank : K → ℕ) (top : ℕ) (least : K) (ranked : Ranki
           → On p (kid (by rank) (frame p) k).1
       down l e h i =
           let t = shape.children p b l k e h in
-          let x = ap rank t.low-is in
+          let x = ap rank t.low_is in
           let y = ap (edge rank top) t.high_is in
           record {
             due = record { low = (kid (by rank) (frame p) k).0; high = bound (by rank) (frame p) k; level = Some l };
             is = i;
-            is-born = t.is-born;
+            is_born = t.is_born;
             fit = fits (kid (by rank) (frame p) k).1 l (kid (by rank) (frame p) k).0 (bound (by rank) (frame p) k) t;
             low = omega (arith, floor-le rank k ((frame p).low, 0) (frame p).kids lo);
             high = omega (arith, ceil-above rank top (upper (frame p)) k (frame p).kids h.1);
-            falls = omega (arith, t.level-is, floor_ge rank k ((frame p).low, 0) _ _ (frame p).kids (shape.ascends p b) (omega arith));
+            falls = omega (arith, t.level_is, floor_ge rank k ((frame p).low, 0) _ _ (frame p).kids (shape.ascends p b) (omega arith));
           }
 
       go : (o : Option (K × ℕ)) → (frame p).foster ≡ o → (l : ℕ) → (frame p).level ≡ l → On p q
@@ -144,8 +144,8 @@ module _ {K : Type 0} (rank : K → ℕ) (top : ℕ) (least : K) (ranked : Ranki
   few-pages (ends e) b lo hi = omega arith
   few-pages (goes {p = p} {q = q} e w) b lo hi =
       let o = on p b lo hi q e in
-      let r = few-pages w o.is-born o.low o.high in
-      omega (arith, left-falls p q o.is-born (falls-weight p q o.falls))
+      let r = few-pages w o.is_born o.low o.high in
+      omega (arith, left-falls p q o.is_born (falls-weight p q o.falls))
 
   -- the pages of the way are born
   way-born : {p q : ℕ} {ps : List ℕ} → Way (by rank) frame k p ps q → p < born → rank (frame p).low ≤ rank k → rank k < edge rank top (frame p).high
@@ -153,7 +153,7 @@ module _ {K : Type 0} (rank : K → ℕ) (top : ℕ) (least : K) (ranked : Ranki
   way-born (ends e) b lo hi = (b, tt)
   way-born (goes {p = p} {q = q} e w) b lo hi =
       let o = on p b lo hi q e in
-      (b, way-born w o.is-born o.low o.high)
+      (b, way-born w o.is_born o.low o.high)
 
   off : (p : ℕ) → onward (by rank) (frame p) k ≡ None → onward_due (by rank) k (frame p) (frame p).foster ≡ None
   off p e = grind arith
@@ -187,21 +187,21 @@ module _ {K V : Type 0} (rank : K → ℕ) (top : ℕ) (least : K) (ranked : Ran
       let t = lt-ltb p s.born b in
       let o = on rank top least ranked s.born (frames s) sound.shape k p b lo hi q e in
       let i = o.is in
-      let v = walked w o.is-born o.low o.high o.due o.fit n (omega arith) in
+      let v = walked w o.is_born o.low o.high o.due o.fit n (omega arith) in
       let u = onto-outcome (visit p (s.page p)) (visits s.page ps) (visit r (s.page r)) ps in
       let y = more-visits {p = p} w in
       elim (honest p b) [ inl h ↦ cc | inr h ↦ let h' = h.1 in cc ]
 
-  root-due : check (by rank) (due-root least) (frames s 0) ≡ 0
+  root-due : check (by rank) (due_root least) (frames s 0) ≡ 0
   root-due =
-      let a = ap rank sound.shape.root-low in
-      let b : same_bound (by rank) None (frames s 0).high ≡ true = subst (λ w. same_bound (by rank) None w ≡ true) (sym sound.shape.root-high) refl in
+      let a = ap rank sound.shape.root_low in
+      let b : same_bound (by rank) None (frames s 0).high ≡ true = subst (λ w. same_bound (by rank) None w ≡ true) (sym sound.shape.root_high) refl in
       grind arith
 
   few : (f : Found (by rank) s k) → length f.pages ≤ suc (left rank top least ranked s.born (frames s) sound.shape k 0)
   few f = few-pages rank top least ranked s.born (frames s) sound.shape k f.way sound.shape.any
-      (omega (arith, ap rank sound.shape.root-low, ranked.from-least k))
-      (omega (arith, ap (edge rank top) sound.shape.root-high, ranked.below_top k))
+      (omega (arith, ap rank sound.shape.root_low, ranked.from_least k))
+      (omega (arith, ap (edge rank top) sound.shape.root_high, ranked.below_top k))
 
   pub way-walked : Went (by rank) least s fetch k
   way-walked =
@@ -210,11 +210,11 @@ module _ {K V : Type 0} (rank : K → ℕ) (top : ℕ) (least : K) (ranked : Ran
       record {
         found = f;
         comes_to = λ n m. walked f.way sound.shape.any
-            (omega (arith, ap rank sound.shape.root-low, ranked.from-least k))
-            (omega (arith, ap (edge rank top) sound.shape.root-high, ranked.below_top k)) (due-root least) root-due n (omega (arith, few f, most));
+            (omega (arith, ap rank sound.shape.root_low, ranked.from_least k))
+            (omega (arith, ap (edge rank top) sound.shape.root_high, ranked.below_top k)) (due_root least) root-due n (omega (arith, few f, most));
       }
 
   pub pages-born : (f : Found (by rank) s k) → All (λ r. r < s.born) f.pages
   pages-born f = way-born rank top least ranked s.born (frames s) sound.shape k f.way sound.shape.any
-      (omega (arith, ap rank sound.shape.root-low, ranked.from-least k))
-      (omega (arith, ap (edge rank top) sound.shape.root-high, ranked.below_top k))
+      (omega (arith, ap rank sound.shape.root_low, ranked.from_least k))
+      (omega (arith, ap (edge rank top) sound.shape.root_high, ranked.below_top k))

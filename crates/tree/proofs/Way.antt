@@ -17,13 +17,13 @@ module _ {K : Type 0} (rank : K → ℕ) (top : ℕ) (least : K) (ranked : Ranki
     pub pages : List ℕ
     pub leaf : ℕ
     pub way : Way (by rank) frame k p pages leaf
-    pub leaf-born : leaf < born
+    pub leaf_born : leaf < born
     pub is_leaf : (frame leaf).level ≡ 0
     pub holds : Holds rank top (frame leaf) k
 
   then : {p q : ℕ} → onward (by rank) (frame p) k ≡ Some q → Ends q → Ends p
   then {p} e w = record
-      { pages = p ∷ w.pages; leaf = w.leaf; way = goes e w.way; leaf-born = w.leaf-born; is_leaf = w.is_leaf; holds = w.holds }
+      { pages = p ∷ w.pages; leaf = w.leaf; way = goes e w.way; leaf_born = w.leaf_born; is_leaf = w.is_leaf; holds = w.holds }
 
   -- a page whose fences have the key, and a measure below n
   abbrev Reach : ℕ → Type 0
@@ -39,21 +39,21 @@ module _ {K : Type 0} (rank : K → ℕ) (top : ℕ) (least : K) (ranked : Ranki
         let u : rank (frame p).low < edge rank top (upper (frame p)) = shape.spans p b in
         let v : edge rank top (upper (frame p)) ≡ rank f.0 = cc in
         let w = ranked.below_top k in
-        let x = ap rank t.low-is in
+        let x = ap rank t.low_is in
         let y = ap (edge rank top) t.high_is in
-        ih f.1 t.is-born (omega arith) (omega arith) (omega (arith, t.level-is))
+        ih f.1 t.is_born (omega arith) (omega arith) (omega (arith, t.level_is))
 
     down : (l : ℕ) → (frame p).level ≡ suc l → Holds rank top (frame p) k → Ends (kid (by rank) (frame p) k).1
     down l e h =
         let t = shape.children p b l k e h in
-        let x = ap rank t.low-is in
+        let x = ap rank t.low_is in
         let y = ap (edge rank top) t.high_is in
         let z = floor-le rank k ((frame p).low, 0) (frame p).kids lo in
         let w = ceil-above rank top k (upper (frame p)) (frame p).kids h.1 in
-        ih (kid (by rank) (frame p) k).1 t.is-born (omega arith) (omega arith) (omega (arith, t.level-is, floor_ge rank k ((frame p).low, 0) _ _ (frame p).kids (shape.ascends p b) (omega arith)))
+        ih (kid (by rank) (frame p) k).1 t.is_born (omega arith) (omega arith) (omega (arith, t.level_is, floor_ge rank k ((frame p).low, 0) _ _ (frame p).kids (shape.ascends p b) (omega arith)))
 
     here : onward (by rank) (frame p) k ≡ None → (frame p).level ≡ zero → Holds rank top (frame p) k → Ends p
-    here e e' h = record { pages = p ∷ []; leaf = p; way = ends e; leaf-born = b; is_leaf = e'; holds = h }
+    here e e' h = record { pages = p ∷ []; leaf = p; way = ends e; leaf_born = b; is_leaf = e'; holds = h }
 
     step : (o : Option (K × ℕ)) → (frame p).foster ≡ o → (l : ℕ) → (frame p).level ≡ l → Ends p
     step None e zero e' =
@@ -84,8 +84,8 @@ module _ {K V : Type 0} (rank : K → ℕ) (top : ℕ) (least : K) (ranked : Ran
   pub leaf_on_way : (k : K) → Ends rank top least ranked s.born (frames s) sound.shape k 0
   leaf_on_way k = way-ends rank top least ranked s.born (frames s) sound.shape k
       (suc ((frames s 0).level + (top - rank (frames s 0).low))) 0 sound.shape.any
-      (omega (arith, ap rank sound.shape.root-low, ranked.from-least k))
-      (omega (arith, ap (edge rank top) sound.shape.root-high, ranked.below_top k)) (omega arith)
+      (omega (arith, ap rank sound.shape.root_low, ranked.from_least k))
+      (omega (arith, ap (edge rank top) sound.shape.root_high, ranked.below_top k)) (omega arith)
 
   pub key-found : (k : K) → Found (by rank) s k
   key-found k = record {
@@ -93,7 +93,7 @@ module _ {K V : Type 0} (rank : K → ℕ) (top : ℕ) (least : K) (ranked : Ran
     leaf = w.leaf;
     way = w.way;
     is_leaf = w.is_leaf;
-    gives = sound.leaves w.leaf w.leaf-born k w.is_leaf w.holds;
+    gives = sound.leaves w.leaf w.leaf_born k w.is_leaf w.holds;
   }
     where
       w : Ends rank top least ranked s.born (frames s) sound.shape k 0

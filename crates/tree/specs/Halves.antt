@@ -15,12 +15,12 @@ module _ {K A : Type 0} (cost : K × A → ℕ) where
   first_key (e ∷ es) = Some e.0
 
   -- the key after the least number of first entries that cost, with n before, at least half of t
-  abbrev pub key-after : ℕ → ℕ → List (K × A) → Option K
-  key-after t n [] = None
-  key-after t n (e ∷ es) = cond (nat_le t (2 * (n + cost e))) (first_key es) (key-after t (n + cost e) es)
+  abbrev pub key_after : ℕ → ℕ → List (K × A) → Option K
+  key_after t n [] = None
+  key_after t n (e ∷ es) = cond (nat_le t (2 * (n + cost e))) (first_key es) (key_after t (n + cost e) es)
 
   abbrev pub divider : List (K × A) → Option K
-  divider es = key-after (total es) 0 es
+  divider es = key_after (total es) 0 es
 
   abbrev pub Cheap : ℕ → List (K × A) → Type 0
   Cheap m [] = Unit {0}
@@ -32,9 +32,9 @@ some (Some a) = true
 
 module _ {K : Type 0} (cmp : K → K → Ordering) where
   -- an entry of a row, and not the first
-  abbrev pub divides-row : {A : Type 0} → K → List (K × A) → Bool
-  divides-row k [] = false
-  divides-row k (e ∷ es) = not (compare_is_eq (cmp k e.0)) && some (find cmp k es)
+  abbrev pub divides_row : {A : Type 0} → K → List (K × A) → Bool
+  divides_row k [] = false
+  divides_row k (e ∷ es) = not (compare_is_eq (cmp k e.0)) && some (find cmp k es)
 
 -- a row of entries of at most m divides inside, into two parts of at most about a half
 pub record Divides {K A : Type 0} (rank : K → ℕ) (cost : K × A → ℕ) (m a b : ℕ) (es : List (K × A)) : Type 0 where
@@ -44,7 +44,7 @@ pub record Divides {K A : Type 0} (rank : K → ℕ) (cost : K × A → ℕ) (m 
   pub above : a < rank key
   pub below : rank key < b
   pub entry : find (by rank) key es ≡ Some value
-  pub inner : divides-row (by rank) key es ≡ true
+  pub inner : divides_row (by rank) key es ≡ true
   pub lower : 2 * total cost (upto (by rank) key es) < total cost es + 2 * m
   pub upper : 2 * total cost (from (by rank) key es) ≤ total cost es
 

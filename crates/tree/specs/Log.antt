@@ -3,7 +3,7 @@ use Rattle.std.specs.Prelude.{◌≡◌, ℕ, zero, suc, ◌<◌, Bool, true, co
 use Prim.Native.Nat.{Ordering}
 use Rattle.std.proofs.Math.Dec.{compare_is_eq}
 use Rattle.tree.specs.Rows.{by}
-use Rattle.tree.specs.Tree.{Image, State, Ranking, Sound, Key, MayPut, MayDivide, MayAdopt, putting, removing, lower-image, upper-image, gaining-image, ceding-image, risen-image}
+use Rattle.tree.specs.Tree.{Image, State, Ranking, Sound, Key, MayPut, MayDivide, MayAdopt, putting, removing, lower_image, upper_image, gaining_image, ceding_image, risen_image}
 
 -- what a record says, but for the previous positions of its pages
 pub data Change (K V : Type 0) : Type 0 where
@@ -17,7 +17,7 @@ pub data Change (K V : Type 0) : Type 0 where
 pub record Rec (K V : Type 0) : Type 0 where
   pub change : Change K V
   pub prev : ℕ
-  pub prev-other : ℕ
+  pub prev_other : ℕ
 
 -- where a page's image comes from in a record: the record leaves the page out, makes it of nothing, or makes it of a page at a position
 pub data Source : Type 0 where
@@ -34,7 +34,7 @@ source_of (Adopt q o k c) a b p = cond (p == o) (Earlier o b) (cond (p == q) (Ea
 source_of (Grow o) a b p = cond (p == 0) (Earlier 0 a) (cond (p == o) (Earlier 0 a) Out)
 
 abbrev pub source : {K V : Type 0} → Rec K V → ℕ → Source
-source r p = source_of r.change r.prev r.prev-other p
+source r p = source_of r.change r.prev r.prev_other p
 
 module _ {K V : Type 0} (cmp : K → K → Ordering) (least : K) where
   abbrev pub blank : Image K V
@@ -45,9 +45,9 @@ module _ {K V : Type 0} (cmp : K → K → Ordering) (least : K) where
   make Format p x = blank
   make (Put q k v) p x = putting cmp least k v x
   make (Remove q k) p x = removing cmp least k x
-  make (Foster q o d) p x = cond (p == o) (upper-image cmp least d x) (lower-image cmp least d o x)
-  make (Adopt q o k c) p x = cond (p == o) (ceding-image cmp least k x) (gaining-image cmp least k c x)
-  make (Grow o) p x = cond (p == 0) (risen-image cmp least o x) x
+  make (Foster q o d) p x = cond (p == o) (upper_image cmp least d x) (lower_image cmp least d o x)
+  make (Adopt q o k c) p x = cond (p == o) (ceding_image cmp least k x) (gaining_image cmp least k c x)
+  make (Grow o) p x = cond (p == 0) (risen_image cmp least o x) x
 
   abbrev pub made : Change K V → ℕ → (ℕ → Image K V) → Source → Image K V
   made ch p page Out = page p

@@ -57,20 +57,20 @@ module _ {K : Type 0} (cmp : K → K → Ordering) where
 -- page c is born, is not the root, and has this level and these fences
 pub record Points {K : Type 0} (born : ℕ) (frame : ℕ → Frame K) (c level : ℕ) (low : K) (high : Option K) : Type 0 where
   pub inner : c ≡ 0 → ⊥
-  pub is-born : c < born
-  pub level-is : (frame c).level ≡ level
-  pub low-is : (frame c).low ≡ low
+  pub is_born : c < born
+  pub level_is : (frame c).level ≡ level
+  pub low_is : (frame c).low ≡ low
   pub high_is : (frame c).high ≡ high
 
 -- the shape of a tree that the store itself has made
 pub record Shape {K : Type 0} (rank : K → ℕ) (top : ℕ) (least : K) (born : ℕ) (frame : ℕ → Frame K) : Type 0 where
   pub any : 0 < born
-  pub root-low : (frame 0).low ≡ least
-  pub root-high : (frame 0).high ≡ None
+  pub root_low : (frame 0).low ≡ least
+  pub root_high : (frame 0).high ≡ None
   pub tallest : (p : ℕ) → p < born → (frame p).level ≤ (frame 0).level
   pub spans : (p : ℕ) → p < born → rank (frame p).low < edge rank top (upper (frame p))
   pub ascends : (p : ℕ) → p < born → Ascends rank (rank (frame p).low) (frame p).kids (edge rank top (upper (frame p)))
-  pub foster-below : (p : ℕ) → p < born → (f : K × ℕ) → (frame p).foster ≡ Some f → rank f.0 < edge rank top (frame p).high
+  pub foster_below : (p : ℕ) → p < born → (f : K × ℕ) → (frame p).foster ≡ Some f → rank f.0 < edge rank top (frame p).high
   pub fosters : (p : ℕ) → p < born → (f : K × ℕ) → (frame p).foster ≡ Some f
       → Points born frame f.1 (frame p).level f.0 (frame p).high
   pub children : (p : ℕ) → p < born → (l : ℕ) (k : K) → (frame p).level ≡ suc l → Holds rank top (frame p) k
@@ -93,11 +93,11 @@ pub record Sound {K V : Type 0} (rank : K → ℕ) (top : ℕ) (least : K) (s : 
 -- what each kind of record does
 module _ {K : Type 0} (cmp : K → K → Ordering) where
   -- a page divided at d, whose foster child is q from now on; and that child
-  abbrev pub lower-part : K → ℕ → Frame K → Frame K
-  lower-part d q x = record { level = x.level; low = x.low; high = x.high; foster = Some (d, q); kids = upto cmp d x.kids }
+  abbrev pub lower_part : K → ℕ → Frame K → Frame K
+  lower_part d q x = record { level = x.level; low = x.low; high = x.high; foster = Some (d, q); kids = upto cmp d x.kids }
 
-  abbrev pub upper-part : K → Frame K → Frame K
-  upper-part d x = record { level = x.level; low = d; high = x.high; foster = x.foster; kids = from cmp d x.kids }
+  abbrev pub upper_part : K → Frame K → Frame K
+  upper_part d x = record { level = x.level; low = d; high = x.high; foster = x.foster; kids = from cmp d x.kids }
 
   -- a branch that gains an entry; a page whose foster child is adopted
   abbrev pub gaining : K → ℕ → Frame K → Frame K
@@ -117,20 +117,20 @@ module _ {K V : Type 0} (cmp : K → K → Ordering) (least : K) where
   abbrev pub removing : K → Image K V → Image K V
   removing k x = record { frame = x.frame; pairs = without cmp k x.pairs }
 
-  abbrev pub lower-image : K → ℕ → Image K V → Image K V
-  lower-image d q x = record { frame = lower-part cmp d q x.frame; pairs = upto cmp d x.pairs }
+  abbrev pub lower_image : K → ℕ → Image K V → Image K V
+  lower_image d q x = record { frame = lower_part cmp d q x.frame; pairs = upto cmp d x.pairs }
 
-  abbrev pub upper-image : K → Image K V → Image K V
-  upper-image d x = record { frame = upper-part cmp d x.frame; pairs = from cmp d x.pairs }
+  abbrev pub upper_image : K → Image K V → Image K V
+  upper_image d x = record { frame = upper_part cmp d x.frame; pairs = from cmp d x.pairs }
 
-  abbrev pub gaining-image : K → ℕ → Image K V → Image K V
-  gaining-image k c x = record { frame = gaining cmp k c x.frame; pairs = x.pairs }
+  abbrev pub gaining_image : K → ℕ → Image K V → Image K V
+  gaining_image k c x = record { frame = gaining cmp k c x.frame; pairs = x.pairs }
 
-  abbrev pub ceding-image : K → Image K V → Image K V
-  ceding-image k x = record { frame = ceding cmp k x.frame; pairs = x.pairs }
+  abbrev pub ceding_image : K → Image K V → Image K V
+  ceding_image k x = record { frame = ceding cmp k x.frame; pairs = x.pairs }
 
-  abbrev pub risen-image : ℕ → Image K V → Image K V
-  risen-image q x = record { frame = risen least q x.frame; pairs = [] }
+  abbrev pub risen_image : ℕ → Image K V → Image K V
+  risen_image q x = record { frame = risen least q x.frame; pairs = [] }
 
   -- the records
   abbrev pub put : ℕ → K → V → State K V → State K V
@@ -150,40 +150,40 @@ module _ {K V : Type 0} (cmp : K → K → Ordering) (least : K) where
   abbrev pub divide : ℕ → K → State K V → State K V
   divide p d s = record {
     born = suc s.born;
-    page = upd (upd s.page p (lower-image d s.born (s.page p))) s.born (upper-image d (s.page p));
+    page = upd (upd s.page p (lower_image d s.born (s.page p))) s.born (upper_image d (s.page p));
     stands = s.stands;
   }
 
   abbrev pub adopt : ℕ → ℕ → K → ℕ → State K V → State K V
   adopt p y k c s = record {
     born = s.born;
-    page = upd (upd s.page p (gaining-image k c (s.page p))) y (ceding-image k (s.page y));
+    page = upd (upd s.page p (gaining_image k c (s.page p))) y (ceding_image k (s.page y));
     stands = s.stands;
   }
 
   abbrev pub grow : State K V → State K V
   grow s = record {
     born = suc s.born;
-    page = upd (upd s.page s.born (s.page 0)) 0 (risen-image s.born (s.page 0));
+    page = upd (upd s.page s.born (s.page 0)) 0 (risen_image s.born (s.page 0));
     stands = s.stands;
   }
 
 -- a record that the store may append
 module _ {K V : Type 0} (rank : K → ℕ) (top : ℕ) (s : State K V) where
   pub record MayPut (p : ℕ) (k : K) : Type 0 where
-    pub is-born : p < s.born
+    pub is_born : p < s.born
     pub leaf : (s.page p).frame.level ≡ 0
     pub holds : Holds rank top (s.page p).frame k
 
   pub record MayDivide (p : ℕ) (d : K) : Type 0 where
-    pub is-born : p < s.born
+    pub is_born : p < s.born
     pub above : rank (s.page p).frame.low < rank d
     pub below : rank d < edge rank top (upper (s.page p).frame)
     pub entry : (l : ℕ) → (s.page p).frame.level ≡ suc l → (c : ℕ) × (find (by rank) d (s.page p).frame.kids ≡ Some c)
 
   -- the branch p gains the entry of page y's foster child; j is a key whose way leads from p to y
   pub record MayAdopt (p y : ℕ) (k : K) (c : ℕ) : Type 0 where
-    pub is-born : p < s.born
+    pub is_born : p < s.born
     pub below : ℕ
     pub level : (s.page p).frame.level ≡ suc below
     pub key : K

@@ -89,8 +89,8 @@ abbrev pub outcome : {K V : Type 0} → (ℕ → Fetched K V) → List ℕ → W
 outcome fetch [] w = w
 outcome fetch (p ∷ ps) w = or_failed (fetch p) (outcome fetch ps w)
 
-abbrev pub due-root : {K : Type 0} → K → Due K
-due-root least = record { low = least; high = None; level = None }
+abbrev pub due_root : {K : Type 0} → K → Due K
+due_root least = record { low = least; high = None; level = None }
 
 -- the pages of a way but the last, with their images
 abbrev pub visits : {K V : Type 0} → (ℕ → Image K V) → List ℕ → List (Visit K V)
@@ -105,7 +105,7 @@ Honest s fetch = (p : ℕ) → p < s.born → (fetch p ≡ Page (s.page p)) ⊎ 
 -- what the store's way comes to, over at most as many pages as are born: it fails exactly at the first page of the true way that cannot be fetched
 pub record Went {K V : Type 0} (cmp : K → K → Ordering) (least : K) (s : State K V) (fetch : ℕ → Fetched K V) (k : K) : Type 0 where
   pub found : Found cmp s k
-  pub comes_to : (n : ℕ) → s.born ≤ n → walk cmp fetch s.born k n 0 (due-root least)
+  pub comes_to : (n : ℕ) → s.born ≤ n → walk cmp fetch s.born k n 0 (due_root least)
       ≡ outcome fetch found.pages (Met (visits s.page found.pages) (visit found.leaf (s.page found.leaf)))
 
 abbrev pub WalksRight : Type 0
@@ -114,11 +114,11 @@ WalksRight = (rank : Key → ℕ) (top : ℕ) (least : Key) → Ranking rank top
 
 -- a page's form, as far as a way goes by it: its foster key is above its low fence, and a branch's keys ascend from there
 pub record Formed {K V : Type 0} (rank : K → ℕ) (top : ℕ) (x : Image K V) : Type 0 where
-  pub foster-above : (f : K × ℕ) → x.frame.foster ≡ Some f → rank x.frame.low < rank f.0
+  pub foster_above : (f : K × ℕ) → x.frame.foster ≡ Some f → rank x.frame.low < rank f.0
   pub ascends : Ascends rank (rank x.frame.low) x.frame.kids (edge rank top (upper x.frame))
 
 -- over any well-formed pages at all, one page more than are born is enough: the way meets no page twice
 abbrev pub WaysShort : Type 0
 WaysShort = (rank : Key → ℕ) (top : ℕ) (least : Key) → Ranking rank top least → (fetch : ℕ → Fetched Key (List ℕ)) (born : ℕ)
     → ((p : ℕ) (x : Image Key (List ℕ)) → fetch p ≡ Page x → Formed rank top x) → (k : Key) (n : ℕ) → suc born ≤ n
-    → walk (by rank) fetch born k n 0 (due-root least) ≡ walk (by rank) fetch born k (suc born) 0 (due-root least)
+    → walk (by rank) fetch born k n 0 (due_root least) ≡ walk (by rank) fetch born k (suc born) 0 (due_root least)

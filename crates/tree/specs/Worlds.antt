@@ -5,7 +5,7 @@ use Rattle.ranks.specs.Lists.{In, All}
 use Rattle.tree.specs.Tree.{Image, frames, Way}
 use Rattle.tree.specs.Log.{Rec, Logged, run, start, tree, at, Built, rebuild, Chain}
 use Rattle.tree.specs.Log.Built.{Done, Lost, Misfit}
-use Rattle.tree.specs.Walk.{Fetched, Walked, walk, due-root}
+use Rattle.tree.specs.Walk.{Fetched, Walked, walk, due_root}
 use Rattle.tree.specs.Walk.Fault.{Gone, Ill}
 use Rattle.tree.specs.Walk.Fetched.{Page, Failed}
 use Rattle.tree.specs.Suits.{suits}
@@ -41,19 +41,19 @@ module _ {K V : Type 0} (cmp : K → K → Ordering) (least : K) where
   abbrev pub logged : World K V → Logged K V
   logged w = run cmp least (start cmp least) w.recs
 
-module _ {K V : Type 0} (cmp : K → K → Ordering) (least : K) (pair-cost : K × V → ℕ) (kid-cost : K × ℕ → ℕ) where
+module _ {K V : Type 0} (cmp : K → K → Ordering) (least : K) (pair_cost : K × V → ℕ) (kid_cost : K × ℕ → ℕ) where
   abbrev pub fetch : World K V → ℕ → Fetched K V
   fetch w p = fetched_of p (passes ((logged cmp least w).newest p) (w.pages p))
-      (rebuild cmp least (suits cmp pair-cost kid-cost) (read w) (suc ((logged cmp least w).newest p)) p ((logged cmp least w).newest p))
+      (rebuild cmp least (suits cmp pair_cost kid_cost) (read w) (suc ((logged cmp least w).newest p)) p ((logged cmp least w).newest p))
 
   abbrev pub goes_to : World K V → K → Walked K V
-  goes_to w k = walk cmp (fetch w) (logged cmp least w).born k (suc (logged cmp least w).born) 0 (due-root least)
+  goes_to w k = walk cmp (fetch w) (logged cmp least w).born k (suc (logged cmp least w).born) 0 (due_root least)
 
 -- a harmed page fails a check, at its newest position and at every later one
 abbrev pub Fails : {K V : Type 0} → ℕ → Option (Stored K V) → Type 0
 Fails {K = K} {V = V} newest page = (x : Stored K V) → page ≡ Some x → newest ≤ x.lsn → ⊥
 
-module _ {K V : Type 0} (cmp : K → K → Ordering) (least : K) (pair-cost : K × V → ℕ) (kid-cost : K × ℕ → ℕ) (w : World K V) where
+module _ {K V : Type 0} (cmp : K → K → Ordering) (least : K) (pair_cost : K × V → ℕ) (kid_cost : K × ℕ → ℕ) (w : World K V) where
   -- a page is harmed if it does not read as its image at its newest position
   abbrev pub Harmed : ℕ → Type 0
   Harmed p = w.pages p ≡ Some (record { lsn = (logged cmp least w).newest p; image = (logged cmp least w).page p }) → ⊥
@@ -61,7 +61,7 @@ module _ {K V : Type 0} (cmp : K → K → Ordering) (least : K) (pair-cost : K 
   -- position n is the newest lost one of page p's chain
   pub record ChainLost (p n : ℕ) : Type 0 where
     pub positions : List ℕ
-    pub chain : Chain cmp least (suits cmp pair-cost kid-cost) (at w.recs) p ((logged cmp least w).newest p) positions ((logged cmp least w).page p)
+    pub chain : Chain cmp least (suits cmp pair_cost kid_cost) (at w.recs) p ((logged cmp least w).newest p) positions ((logged cmp least w).page p)
     pub newer : List ℕ
     pub older : List ℕ
     pub parts : positions ≡ newer ++ (n ∷ older)
