@@ -5,7 +5,7 @@ cd "$(dirname "$0")/.."
 at=${1:-}
 say() { # a name, an extended regular expression, and what to leave out
     local n
-    n=$(git grep -nE "$2" $at -- 'crates/*/src/*.rt' | grep -vE "${3:-^$}" | tee /dev/stderr | wc -l || true)
+    n=$(git grep -nE "$2" $at -- 'crates/*/src/*.rt' | grep -vE "${3:-^$}" | tee >(cat >&2) | wc -l || true)
     printf '%s: %s\n' "$1" "$n"
 }
 comment=':[0-9]+: *//'
