@@ -1,22 +1,20 @@
 -- What a mirror's calls come to, by what the calls of its two devices come to.
-use Rattle.std.proofs.Common.{◌≡◌, ℕ, zero, suc, ◌<◌, ◌≤◌, min, Bool, true, false, cond, ◌&&◌, List, [], ◌∷◌, length, get_or, set, sym, refl, ap, ◌∙◌, le_of_suc-le-suc, not-suc-le-zero, arith}
+use Rattle.std.proofs.Common.{◌≡◌, ℕ, zero, suc, ◌<◌, min, Bool, true, false, cond, ◌&&◌, List, [], ◌∷◌, Result, Ok, Err, IsErr, length, get_or, set, sym, refl, ap, ◌∙◌, le_of_suc-le-suc, not-suc-le-zero, arith}
 use native.Mathlib.Nat.{zero-min, min-zero, suc-min-suc}
-use Rattle.std.proofs.lemmas.List.{set-get_or, get_or_past}
-use Rattle.std.proofs.lemmas.Bool.{lt-ltb, and_from, and_right, cond-true, cond-false, false≢true}
+use Rattle.std.proofs.lemmas.List.{set-get_or}
+use Rattle.std.proofs.lemmas.Bool.{lt-ltb, and_from, cond-true, cond-false, false≢true}
 use Rattle.seal.specs.Seal.{is_sealed}
 use Rattle.device.specs.Disk.{Disk, Page, holds, unreadable, intact, reaches, shown, gives_sealed, reading}
-use Rattle.device.specs.Writes.{Fate, lasts, keeps_old, leaves_new, tears, left_by, power_after, written, answer, Wrote}
+use Rattle.device.specs.Writes.{Fate, lasts, keeps_old, leaves_new, tears, left_by, power_after, power_off, written, answer, Wrote}
 use Rattle.device.specs.Mirror.{better, paired, mirrored, InOrder}
-use Rattle.device.specs.declared.ReadAnswer.{ReadAnswer}
-use Rattle.device.specs.declared.ReadAnswer.TheVariants as read
-use Rattle.device.specs.declared.WriteAnswer.{WriteAnswer}
-use Rattle.device.specs.declared.WriteAnswer.TheVariants.{Done, Off}
-use Rattle.device.proofs.Outcomes.{written-within, finished_unless_off, on_unless_off, off_means_off, done-not-off}
+use Rattle.device.specs.declared.errors.PowerOff.{PowerOff}
+use Rattle.device.specs.declared.errors.ReadError.{ReadError}
+use Rattle.device.proofs.Outcomes.{written-within, finished_unless_off, on_unless_off, off_means_off, done-not-off, only-off}
 
-pub length-paired : (ps qs : List Page) → length (paired ps qs) ≡ min (length ps) (length qs)
-length-paired [] qs = sym (zero-min (length qs))
-length-paired (p ∷ ps) [] = sym (min-zero (suc (length ps)))
-length-paired (p ∷ ps) (q ∷ qs) = ap suc (length-paired ps qs) ∙ sym (suc-min-suc (length ps) (length qs))
+pub length_paired : (ps qs : List Page) → length (paired ps qs) ≡ min (length ps) (length qs)
+length_paired [] qs = sym (zero-min (length qs))
+length_paired (p ∷ ps) [] = sym (min-zero (suc (length ps)))
+length_paired (p ∷ ps) (q ∷ qs) = ap suc (length_paired ps qs) ∙ sym (suc-min-suc (length ps) (length qs))
 
 paired_at : (ps qs : List Page) (i : ℕ) → i < length (paired ps qs) → get_or (paired ps qs) i unreadable ≡ better (get_or ps i unreadable) (get_or qs i unreadable)
 paired_at [] qs i h = absurd (not-suc-le-zero h)
@@ -66,10 +64,10 @@ module _ (ps qs : List Page) (i : ℕ) (bs : List ℕ) (near : i < length (paire
   Reaches e = (f : Fate) × (e ≡ written f (mirrored (live ps) (live qs)) i bs)
 
   first_near : i < length ps
-  first_near = omega (arith, length-paired ps qs)
+  first_near = omega (arith, length_paired ps qs)
 
   second_near : i < length qs
-  second_near = omega (arith, length-paired ps qs)
+  second_near = omega (arith, length_paired ps qs)
 
   by : (f : Fate) (rs : List Page) → rs ≡ set (paired ps qs) i (left_by f (get_or (paired ps qs) i unreadable) (holds bs)) → Reaches (disk_of rs (power_after f))
   by f rs is = (f, ap (λ (r : List Page). disk_of r (power_after f)) is ∙ sym (within (paired ps qs) i bs f near))
@@ -102,10 +100,10 @@ module _ (ps qs : List Page) (i : ℕ) (bs : List ℕ) (near : i < length (paire
   first-after (tears q torn) = by leaves_new _ (paired-both ps qs i q (holds bs) ∙ rw torn)
 
 -- power went in the write to the second device
-pub second-failed : (a b b' : Disk) (i : ℕ) (bs : List ℕ) → true ≡ (a.on && b.on) → i < length (paired a.pages b.pages) → Wrote b i bs Off b' → Wrote (mirrored a b) i bs Off (mirrored a b')
-second-failed a b b' i bs = go a.pages b.pages a.on b.on
+pub second-failed : (a b b' : Disk) (i : ℕ) (bs : List ℕ) (r : Result Unit PowerOff) → IsErr r → true ≡ (a.on && b.on) → i < length (paired a.pages b.pages) → Wrote b i bs (Err power_off) b' → Wrote (mirrored a b) i bs r (mirrored a b')
+second-failed a b b' i bs r failed on near w = rw (only-off r failed) (go a.pages b.pages a.on b.on on near w)
   where
-    go : (ps qs : List Page) (x y : Bool) → true ≡ (x && y) → i < length (paired ps qs) → Wrote (disk_of qs y) i bs Off b' → Wrote (mirrored (disk_of ps x) (disk_of qs y)) i bs Off (mirrored (disk_of ps x) b')
+    go : (ps qs : List Page) (x y : Bool) → true ≡ (x && y) → i < length (paired ps qs) → Wrote (disk_of qs y) i bs (Err power_off) b' → Wrote (mirrored (disk_of ps x) (disk_of qs y)) i bs (Err power_off) (mirrored (disk_of ps x) b')
     go ps qs true true e near w =
         let left : b' ≡ disk_of (set qs i (left_by w.fate (get_or qs i unreadable) (holds bs))) (power_after w.fate) = w.leaves ∙ within qs i bs w.fate (second_near ps qs i bs near) in
         let off : power_after w.fate ≡ false = sym (ap (λ (d : Disk). d.on) left) ∙ off_means_off (live qs) b' i bs w in
@@ -119,18 +117,18 @@ and-true true y e = sym e
 and-true false y e = refl
 
 -- the second device has the bytes, and the first was written
-pub first_wrote : (a b a' b' : Disk) (i : ℕ) (bs : List ℕ) (r : WriteAnswer) → true ≡ (a.on && b.on) → i < length (paired a.pages b.pages) → Wrote b i bs Done b' → Wrote a i bs r a' → Wrote (mirrored a b) i bs r (mirrored a' b')
+pub first_wrote : (a b a' b' : Disk) (i : ℕ) (bs : List ℕ) (r : Result Unit PowerOff) → true ≡ (a.on && b.on) → i < length (paired a.pages b.pages) → Wrote b i bs (Ok tt) b' → Wrote a i bs r a' → Wrote (mirrored a b) i bs r (mirrored a' b')
 first_wrote a b a' b' i bs r = go a.pages b.pages a.on b.on
   where
-    go : (ps qs : List Page) (x y : Bool) → true ≡ (x && y) → i < length (paired ps qs) → Wrote (disk_of qs y) i bs Done b' → Wrote (disk_of ps x) i bs r a' → Wrote (mirrored (disk_of ps x) (disk_of qs y)) i bs r (mirrored a' b')
+    go : (ps qs : List Page) (x y : Bool) → true ≡ (x && y) → i < length (paired ps qs) → Wrote (disk_of qs y) i bs (Ok tt) b' → Wrote (disk_of ps x) i bs r a' → Wrote (mirrored (disk_of ps x) (disk_of qs y)) i bs r (mirrored a' b')
     go ps qs true true e near w v =
-        let second : b' ≡ live (set qs i (holds bs)) = finished_unless_off (live qs) b' i bs Done w done-not-off ∙ within qs i bs lasts (second_near ps qs i bs near) in
+        let second : b' ≡ live (set qs i (holds bs)) = finished_unless_off (live qs) b' i bs (Ok tt) w done-not-off ∙ within qs i bs lasts (second_near ps qs i bs near) in
         let first : a' ≡ disk_of (set ps i (left_by v.fate (get_or ps i unreadable) (holds bs))) (power_after v.fate) = v.leaves ∙ within ps i bs v.fate (first_near ps qs i bs near) in
         let after = first-after ps qs i bs near v.fate in
         record {
           fate = after.0;
           leaves = ap (λ (d : Disk). mirrored d b') first ∙ ap (mirrored (disk_of (set ps i (left_by v.fate (get_or ps i unreadable) (holds bs))) (power_after v.fate))) second ∙ after.1;
-          answers = v.answers ∙ ap answer (and-true a'.on b'.on (on_unless_off (live qs) b' i bs Done w done-not-off));
+          answers = v.answers ∙ ap answer (and-true a'.on b'.on (on_unless_off (live qs) b' i bs (Ok tt) w done-not-off));
         }
     go ps qs true false e near w v = absurd (false≢true (sym e))
     go ps qs false y e near w v = absurd (false≢true (sym e))
@@ -139,24 +137,14 @@ reached : (a b : Disk) (i : ℕ) → true ≡ (a.on && b.on) → i < length (pai
 reached a b i on near = and_from _ _ (sym on) (lt-ltb i (length (paired a.pages b.pages)) near)
 
 -- the order of the two writes
-pub order_both : (a b a' b' : Disk) (i : ℕ) (bs : List ℕ) (r : WriteAnswer) → true ≡ (a.on && b.on) → i < length (paired a.pages b.pages) → Wrote b i bs Done b' → Wrote a i bs r a' → InOrder a b i bs a' b'
+pub order_both : (a b a' b' : Disk) (i : ℕ) (bs : List ℕ) (r : Result Unit PowerOff) → true ≡ (a.on && b.on) → i < length (paired a.pages b.pages) → Wrote b i bs (Ok tt) b' → Wrote a i bs r a' → InOrder a b i bs a' b'
 order_both a b a' b' i bs r on near w v =
     let h = reached a b i on near in
     record {
       in_second = w.fate;
       in_first = v.fate;
       second = w.leaves ∙ sym (cond-true _ _ _ h);
-      first = v.leaves ∙ sym (cond-true _ _ _ (and_from _ _ h (on_unless_off b b' i bs Done w done-not-off)));
-    }
-
-pub order_cut : (a b b' : Disk) (i : ℕ) (bs : List ℕ) → true ≡ (a.on && b.on) → i < length (paired a.pages b.pages) → Wrote b i bs Off b' → InOrder a b i bs a b'
-order_cut a b b' i bs on near w =
-    let h = reached a b i on near in
-    record {
-      in_second = w.fate;
-      in_first = lasts;
-      second = w.leaves ∙ sym (cond-true _ _ _ h);
-      first = sym (cond-false _ _ _ (and_right _ _ (off_means_off b b' i bs w)));
+      first = v.leaves ∙ sym (cond-true _ _ _ (and_from _ _ h (on_unless_off b b' i bs (Ok tt) w done-not-off)));
     }
 
 shown-better : (b : Bool) (x y : Page) → shown (cond b x y) ≡ cond b (shown x) (shown y)
@@ -167,10 +155,6 @@ better-shown : (x y : Page) → shown (better x y) ≡ cond (gives_sealed (shown
 better-shown (holds bs) y = shown-better (is_sealed bs) (holds bs) y
 better-shown unreadable y = refl
 
--- past the shorter row nothing can be read
-pub read_past : (a b : Disk) (i : ℕ) → true ≡ (a.on && b.on) → length (paired a.pages b.pages) ≤ i → read.Unreadable ≡ reading (mirrored a b) i
-read_past a b i on far = rw (sym on, get_or_past (paired a.pages b.pages) i unreadable far)
-
 -- what the first answers if that is sealed, else what the second answers
 read-both : (a b : Disk) (i : ℕ) → true ≡ (a.on && b.on) → i < length (paired a.pages b.pages) → reading (mirrored a b) i ≡ cond (gives_sealed (reading a i)) (reading a i) (reading b i)
 read-both a b i = go a.pages b.pages a.on b.on
@@ -180,11 +164,8 @@ read-both a b i = go a.pages b.pages a.on b.on
     go ps qs true false on near = absurd (false≢true (sym on))
     go ps qs false y on near = absurd (false≢true (sym on))
 
-pub read_first : (a b : Disk) (i : ℕ) (r : ReadAnswer) → true ≡ (a.on && b.on) → i < length (paired a.pages b.pages) → r ≡ reading a i → true ≡ gives_sealed r → r ≡ reading (mirrored a b) i
+pub read_first : (a b : Disk) (i : ℕ) (r : Result (List ℕ) ReadError) → true ≡ (a.on && b.on) → i < length (paired a.pages b.pages) → r ≡ reading a i → true ≡ gives_sealed r → r ≡ reading (mirrored a b) i
 read_first a b i r on near first sealed = first ∙ sym (read-both a b i on near ∙ cond-true _ _ _ (sym (ap gives_sealed first) ∙ sym sealed))
 
-pub read-second : (a b : Disk) (i : ℕ) (r s : ReadAnswer) → true ≡ (a.on && b.on) → i < length (paired a.pages b.pages) → r ≡ reading a i → false ≡ gives_sealed r → s ≡ reading b i → s ≡ reading (mirrored a b) i
+pub read-second : (a b : Disk) (i : ℕ) (r s : Result (List ℕ) ReadError) → true ≡ (a.on && b.on) → i < length (paired a.pages b.pages) → r ≡ reading a i → false ≡ gives_sealed r → s ≡ reading b i → s ≡ reading (mirrored a b) i
 read-second a b i r s on near first bad second = second ∙ sym (read-both a b i on near ∙ cond-false _ _ _ (sym (ap gives_sealed first) ∙ sym bad))
-
-pub both-same : (a a' b b' : Disk) → a' ≡ a → b' ≡ b → mirrored a' b' ≡ mirrored a b
-both-same a a' b b' e f = rw (e, f)

@@ -3,7 +3,7 @@ use Rattle.std.proofs.Common.{◌≡◌, ℕ, zero, suc, ◌+◌, ◌*◌, ◌<�
 use borrow.Rule.Slice.PartMut.{put_mid}
 use Rattle.std.proofs.lemmas.List.{drop-drop, take_at, drop_at, drop-append-le, drop-take, length-take-le}
 use Rattle.std.proofs.lemmas.Slice.{take-put_mid_below}
-use Rattle.device.specs.Parts.{parts}
+use Rattle.std.specs.Simd.{first_chunks}
 
 shift : (size p : ℕ) → suc p * size ≡ size + p * size
 shift size p = omega (arith, suc-mul p size)
@@ -18,16 +18,16 @@ drop-put size m a bs ys far room =
     drop-append-le size (take a bs) (ys ++ drop size (drop a bs)) long ∙ rw (far, drop-take, ← drop-drop m size bs)
 
 module _ (size : ℕ) where
-  pub length-parts : (n : ℕ) (bs : List ℕ) → length (parts size n bs) ≡ n
+  pub length-parts : (n : ℕ) (bs : List ℕ) → length (first_chunks size n bs) ≡ n
   length-parts zero bs = refl
   length-parts (suc n) bs = ap suc (length-parts n (drop size bs))
 
-  pub part_at : (n p : ℕ) (bs d : List ℕ) → p < n → get_or (parts size n bs) p d ≡ take size (drop (p * size) bs)
+  pub part_at : (n p : ℕ) (bs d : List ℕ) → p < n → get_or (first_chunks size n bs) p d ≡ take size (drop (p * size) bs)
   part_at zero p bs d h = absurd (not-suc-le-zero h)
   part_at (suc n) zero bs d h = rw zero-mul
   part_at (suc n) (suc p) bs d h = part_at n p (drop size bs) d (le_of_suc-le-suc h) ∙ rw (drop-drop, shift)
 
-  pub part-put : (n p : ℕ) (bs ys : List ℕ) → p < n → n * size ≤ length bs → length ys ≡ size → parts size n (put_mid (p * size) size bs ys) ≡ set (parts size n bs) p ys
+  pub part-put : (n p : ℕ) (bs ys : List ℕ) → p < n → n * size ≤ length bs → length ys ≡ size → first_chunks size n (put_mid (p * size) size bs ys) ≡ set (first_chunks size n bs) p ys
   part-put zero p bs ys h room e = absurd (not-suc-le-zero h)
   part-put (suc n) zero bs ys h room e = rw (zero-mul, take_at ys (drop size bs) size e, drop_at ys (drop size bs) size e)
   part-put (suc n) (suc p) bs ys h room e =
@@ -38,4 +38,4 @@ module _ (size : ℕ) where
       let front : take size cs ≡ take size bs = take-put_mid_below (suc p * size) size bs ys size (omega arith) (omega arith) in
       let back : drop size cs ≡ put_mid (p * size) size (drop size bs) ys = drop-put size (p * size) (suc p * size) bs ys far (omega arith) in
       let rest = part-put n p (drop size bs) ys (le_of_suc-le-suc h) (rw length-drop (omega arith)) e in
-      ap (λ (l : List ℕ). l ∷ parts size n (drop size cs)) front ∙ ap (λ (l : List (List ℕ)). take size bs ∷ l) (ap (parts size n) back ∙ rest)
+      ap (λ (l : List ℕ). l ∷ first_chunks size n (drop size cs)) front ∙ ap (λ (l : List (List ℕ)). take size bs ∷ l) (ap (first_chunks size n) back ∙ rest)

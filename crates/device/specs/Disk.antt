@@ -1,8 +1,8 @@
 -- What a page device means: a row of pages, and power.
-use Rattle.std.specs.Prelude.{◌≡◌, ℕ, Bool, true, false, cond, ◌&&◌, List, length, nat_lt, slice_index_or}
+use Rattle.std.specs.Prelude.{◌≡◌, ℕ, Bool, true, false, cond, ◌&&◌, List, length, nat_lt, slice_index_or, Result, Ok, Err}
 use Rattle.seal.specs.Seal.{is_sealed}
-use Rattle.device.specs.declared.ReadAnswer.{ReadAnswer}
-use Rattle.device.specs.declared.ReadAnswer.TheVariants as read
+use Rattle.device.specs.declared.errors.ReadError.{ReadError}
+use Rattle.device.specs.declared.errors.ReadError.TheVariants.{Unreadable, Off}
 
 -- a page holds 512 bytes, or cannot be read
 pub data Page : Type 0 where
@@ -26,19 +26,18 @@ page_at d p = slice_index_or d.pages p unreadable
 abbrev pub reaches : Disk → ℕ → Bool
 reaches d p = d.on && nat_lt p (length d.pages)
 
-abbrev pub shown : Page → ReadAnswer
-shown (holds bs) = read.Bytes bs
-shown unreadable = read.Unreadable
+abbrev pub shown : Page → Result (List ℕ) ReadError
+shown (holds bs) = Ok bs
+shown unreadable = Err Unreadable
 
 -- whether an answer gives the bytes of an intact page
-abbrev pub gives_sealed : ReadAnswer → Bool
-gives_sealed (read.Bytes bs) = is_sealed bs
-gives_sealed read.Unreadable = false
-gives_sealed read.Off = false
+abbrev pub gives_sealed : Result (List ℕ) ReadError → Bool
+gives_sealed (Ok bs) = is_sealed bs
+gives_sealed (Err e) = false
 
 -- what a read of page p answers
-abbrev pub reading : Disk → ℕ → ReadAnswer
-reading d p = cond d.on (shown (page_at d p)) read.Off
+abbrev pub reading : Disk → ℕ → Result (List ℕ) ReadError
+reading d p = cond d.on (shown (page_at d p)) (Err Off)
 
 abbrev pub woken : Disk → Disk
 woken d = record { pages = d.pages; on = true }

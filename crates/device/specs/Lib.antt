@@ -1,7 +1,6 @@
 pub mod Disk
 pub mod Writes
 pub mod Laws
-pub mod Parts
 pub mod Card
 pub mod Mirror
 pub mod Repair

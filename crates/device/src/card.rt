@@ -4,7 +4,7 @@ ghost use Rattle.device.specs.Card.{card_disk};
 ghost use Rattle.device.specs.Disk.{reading};
 ghost use Rattle.device.specs.Writes.{Wrote};
 
-use crate::{PageDevice, ReadAnswer, WriteAnswer};
+use crate::{PageDevice, PowerOff, ReadError};
 
 #[derive(Drop)]
 pub struct Card<'a> {
@@ -19,23 +19,21 @@ impl<'a> Card<'a> {
         Card { bytes }
     }
 
-    fn look(&self, page: u32) -> ReadAnswer
+    fn look(&self, page: u32) -> Result<[u8; 512], ReadError>
         ensures { result ≡ reading (card_disk self.now.bytes.now) page }
     {
-        let page = page as usize;
-        if page >= self.bytes.len() / 512 {
-            return ReadAnswer::Unreadable;
-        }
-        let at = page * 512;
-        let mut bytes = [0; 512];
-        bytes.copy_from_slice(&self.bytes[at..at + 512]);
-        ReadAnswer::Bytes(bytes)
+        let (pages, _) = self.bytes.as_chunks::<512>();
+        pages
+            .get(page as usize)
+            .copied()
+            .ok_or(ReadError::Unreadable)
     }
 }
 
 impl<'a> PageDevice for Card<'a> {
     ghost disk = { λ card. card_disk card.bytes.now };
 
+    #[tactic(auto, using(crate::proofs::Cards::card_count))]
     fn count(&self) -> usize {
         self.bytes.len() / 512
     }
@@ -45,7 +43,7 @@ impl<'a> PageDevice for Card<'a> {
     }
 
     // `lent`, here and below: the card still refers to the bytes that it was lent.
-    fn read(&mut self, page: u32) -> ReadAnswer
+    fn read(&mut self, page: u32) -> Result<[u8; 512], ReadError>
         ensures value { result ≡ reading (card_disk self.old.bytes.now) page }
         ensures same { card_disk self.new.bytes.now ≡ card_disk self.old.bytes.now }
         ensures lent { self.new.bytes.ghost_name ≡ self.old.bytes.ghost_name }
@@ -53,7 +51,7 @@ impl<'a> PageDevice for Card<'a> {
         self.look(page)
     }
 
-    fn write(&mut self, page: u32, bytes: &[u8; 512]) -> WriteAnswer
+    fn write(&mut self, page: u32, bytes: &[u8; 512]) -> Result<(), PowerOff>
         ensures wrote { Wrote (card_disk self.old.bytes.now) page bytes.now result (card_disk self.new.bytes.now) }
         ensures lent { self.new.bytes.ghost_name ≡ self.old.bytes.ghost_name }
     {
@@ -62,7 +60,7 @@ impl<'a> PageDevice for Card<'a> {
             let start = page * 512;
             self.bytes[start..start + 512].copy_from_slice(bytes);
         }
-        WriteAnswer::Done
+        Ok(())
     }
 
     fn wake(&mut self) {}

@@ -3,7 +3,7 @@ ghost use Rattle.std.specs.Prelude.{◌≡◌};
 ghost use Rattle.device.specs.Mirror.{InOrder, mirrored};
 ghost use Rattle.device.specs.Writes.{Wrote};
 
-use crate::{PageDevice, ReadAnswer, WriteAnswer};
+use crate::{PageDevice, PowerOff, ReadError, gives_sealed};
 
 #[derive(Drop)]
 pub struct Mirror<F, S> {
@@ -23,6 +23,7 @@ impl<F: PageDevice, S: PageDevice> Mirror<F, S> {
 impl<F: PageDevice, S: PageDevice> PageDevice for Mirror<F, S> {
     ghost disk = { λ m. mirrored (F.PageDevice.disk m.first) (S.PageDevice.disk m.second) };
 
+    #[tactic(auto, using(crate::proofs::Mirrors::length_paired))]
     fn count(&self) -> usize {
         self.first.count().min(self.second.count())
     }
@@ -31,36 +32,34 @@ impl<F: PageDevice, S: PageDevice> PageDevice for Mirror<F, S> {
         self.first.powered() && self.second.powered()
     }
 
-    fn read(&mut self, page: u32) -> ReadAnswer {
+    fn read(&mut self, page: u32) -> Result<[u8; 512], ReadError> {
         if !self.powered() {
-            return ReadAnswer::Off;
+            return Err(ReadError::Off);
         }
         if page as usize >= self.count() {
-            return ReadAnswer::Unreadable;
+            return Err(ReadError::Unreadable);
         }
         let first = self.first.read(page);
-        if first.is_sealed() {
+        if gives_sealed(&first) {
             return first;
         }
         self.second.read(page)
     }
 
     // Both powers are asked before the first write: what one side took while the other was off would show after a wake.
-    fn write(&mut self, page: u32, bytes: &[u8; 512]) -> WriteAnswer
+    fn write(&mut self, page: u32, bytes: &[u8; 512]) -> Result<(), PowerOff>
         ensures wrote { Wrote (mirrored (F.PageDevice.disk self.old.first) (S.PageDevice.disk self.old.second)) page bytes.now result (mirrored (F.PageDevice.disk self.new.first) (S.PageDevice.disk self.new.second)) }
         ensures order { InOrder (F.PageDevice.disk self.old.first) (S.PageDevice.disk self.old.second) page bytes.now (F.PageDevice.disk self.new.first) (S.PageDevice.disk self.new.second) }
     {
         let both_on = self.powered();
         if !both_on {
-            return WriteAnswer::Off;
+            return Err(PowerOff);
         }
         if page as usize >= self.count() {
-            return WriteAnswer::Done;
+            return Ok(());
         }
-        match self.second.write(page, bytes) {
-            WriteAnswer::Done => self.first.write(page, bytes),
-            WriteAnswer::Off => WriteAnswer::Off,
-        }
+        self.second.write(page, bytes)?;
+        self.first.write(page, bytes)
     }
 
     fn wake(&mut self) {

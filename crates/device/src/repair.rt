@@ -1,26 +1,27 @@
 // A page read, tested, and replaced where the test refuses it.
 ghost use Rattle.device.specs.Repair.{Repaired};
 
-use crate::{PageDevice, WriteAnswer};
+use crate::{PageDevice, PowerOff, gives_sealed};
 
-#[derive(Clone, Copy)]
-pub enum RepairAnswer {
+#[derive(Clone, Copy, PartialEq, Eq, Debug)]
+pub enum Repair {
     Intact,
     Replaced,
-    Off,
 }
 
-pub fn repair_page<D: PageDevice>(device: &mut D, page: u32, spare: &[u8; 512]) -> RepairAnswer
+pub fn repair_page<D: PageDevice>(
+    device: &mut D,
+    page: u32,
+    spare: &[u8; 512],
+) -> Result<Repair, PowerOff>
     ensures { Repaired (D.disk device.old) page spare.now result (D.disk device.new) }
 {
     if !device.powered() {
-        return RepairAnswer::Off;
+        return Err(PowerOff);
     }
-    if device.read(page).is_sealed() {
-        return RepairAnswer::Intact;
+    if gives_sealed(&device.read(page)) {
+        return Ok(Repair::Intact);
     }
-    match device.write(page, spare) {
-        WriteAnswer::Done => RepairAnswer::Replaced,
-        WriteAnswer::Off => RepairAnswer::Off,
-    }
+    device.write(page, spare)?;
+    Ok(Repair::Replaced)
 }

@@ -1,11 +1,10 @@
 -- A write in which power was cut.
-use Rattle.std.proofs.Common.{◌≡◌, ℕ, ◌<◌, Bool, true, false, ◌&&◌, List, length, set, sym, refl, ap, ◌∙◌, ap₂, inl, inr}
+use Rattle.std.proofs.Common.{◌≡◌, ℕ, ◌<◌, Bool, true, false, ◌&&◌, List, Result, Err, length, set, sym, refl, ap, ◌∙◌, ap₂, inl, inr}
 use Rattle.std.proofs.lemmas.List.{set-get_or}
 use Rattle.std.proofs.lemmas.Bool.{false≢true}
 use Rattle.device.specs.Disk.{Disk, Page, holds, unreadable, page_at}
-use Rattle.device.specs.Writes.{Fate, lasts, keeps_old, leaves_new, tears, left_by, power_after, Wrote}
-use Rattle.device.specs.declared.WriteAnswer.{WriteAnswer}
-use Rattle.device.specs.declared.WriteAnswer.TheVariants.{Off}
+use Rattle.device.specs.Writes.{Fate, lasts, keeps_old, leaves_new, tears, left_by, power_after, power_off, Wrote}
+use Rattle.device.specs.declared.errors.PowerOff.{PowerOff}
 use Rattle.device.proofs.Outcomes.{changed, written-within}
 use Rattle.door_tests.specs.Cut.{cut_disk, Leaves}
 
@@ -28,10 +27,10 @@ shows bs image old l keeps_old = record { fate = keeps_old; page = refl; off = r
 shows bs image old l leaves_new = let s = shows-image bs image old l in record { fate = s.fate; page = s.page; off = s.off }
 shows bs image old l (tears q torn) = record { fate = tears q torn; page = refl; off = refl }
 
-pub cut-image : (x : Bool) (d e : Disk) (p : ℕ) (bs image : List ℕ) (r : WriteAnswer) → true ≡ (x && d.on) → p < length d.pages → Leaves bs image → Wrote d p image r e → Wrote (cut_disk x d) p bs Off (cut_disk false e)
+pub cut-image : (x : Bool) (d e : Disk) (p : ℕ) (bs image : List ℕ) (r : Result Unit PowerOff) → true ≡ (x && d.on) → p < length d.pages → Leaves bs image → Wrote d p image r e → Wrote (cut_disk x d) p bs (Err power_off) (cut_disk false e)
 cut-image x d e p bs image r = go d.pages x d.on
   where
-    go : (ps : List Page) (x y : Bool) → true ≡ (x && y) → p < length ps → Leaves bs image → Wrote (disk_of ps y) p image r e → Wrote (cut_disk x (disk_of ps y)) p bs Off (cut_disk false e)
+    go : (ps : List Page) (x y : Bool) → true ≡ (x && y) → p < length ps → Leaves bs image → Wrote (disk_of ps y) p image r e → Wrote (cut_disk x (disk_of ps y)) p bs (Err power_off) (cut_disk false e)
     go ps true true on near l w =
         let d : Disk = disk_of ps true in
         let s = shows bs image (page_at d p) l w.fate in
@@ -46,10 +45,10 @@ cut-image x d e p bs image r = go d.pages x d.on
     go ps true false on near l w = absurd (false≢true (sym on))
     go ps false y on near l w = absurd (false≢true (sym on))
 
-pub cut-old : (x : Bool) (d : Disk) (p : ℕ) (bs : List ℕ) → true ≡ (x && d.on) → p < length d.pages → Wrote (cut_disk x d) p bs Off (cut_disk false d)
+pub cut-old : (x : Bool) (d : Disk) (p : ℕ) (bs : List ℕ) → true ≡ (x && d.on) → p < length d.pages → Wrote (cut_disk x d) p bs (Err power_off) (cut_disk false d)
 cut-old x d p bs = go d.pages x d.on
   where
-    go : (ps : List Page) (x y : Bool) → true ≡ (x && y) → p < length ps → Wrote (cut_disk x (disk_of ps y)) p bs Off (cut_disk false (disk_of ps y))
+    go : (ps : List Page) (x y : Bool) → true ≡ (x && y) → p < length ps → Wrote (cut_disk x (disk_of ps y)) p bs (Err power_off) (cut_disk false (disk_of ps y))
     go ps true true on near =
         let d : Disk = disk_of ps true in
         record {

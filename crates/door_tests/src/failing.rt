@@ -2,7 +2,7 @@
 ghost use Rattle.std.specs.Prelude.{true, IfSome};
 ghost use Rattle.door_tests.specs.Cut.{cut_disk, Leaves};
 
-use device::{PageDevice, ReadAnswer, WriteAnswer};
+use device::{PageDevice, PowerOff, ReadError};
 use seal::is_sealed;
 
 // What the cut write leaves.
@@ -17,13 +17,13 @@ pub enum Cut {
 pub struct Failing<D> {
     inner: D,
     on: bool,
-    // how many writes finish before the cut
-    left: u32,
+    // how many writes finish before the cut, if it is still to come
+    left: Option<u32>,
     cut: Cut,
 }
 
 impl<D: PageDevice> Failing<D> {
-    pub fn new(inner: D, left: u32, cut: Cut) -> Failing<D> {
+    pub fn new(inner: D, left: Option<u32>, cut: Cut) -> Failing<D> {
         Failing {
             inner,
             on: true,
@@ -35,10 +35,8 @@ impl<D: PageDevice> Failing<D> {
 
 // The front half of the bytes, and zeros.
 fn half(bytes: &[u8; 512]) -> [u8; 512] {
-    let mut torn = [0; 512];
-    for i in 0..256 {
-        torn[i] = bytes[i];
-    }
+    let mut torn = *bytes;
+    torn[256..].fill(0);
     torn
 }
 
@@ -67,31 +65,34 @@ impl<D: PageDevice> PageDevice for Failing<D> {
         self.on && self.inner.powered()
     }
 
-    fn read(&mut self, page: u32) -> ReadAnswer {
+    fn read(&mut self, page: u32) -> Result<[u8; 512], ReadError> {
         if !self.on {
-            return ReadAnswer::Off;
+            return Err(ReadError::Off);
         }
         self.inner.read(page)
     }
 
-    fn write(&mut self, page: u32, bytes: &[u8; 512]) -> WriteAnswer {
+    fn write(&mut self, page: u32, bytes: &[u8; 512]) -> Result<(), PowerOff> {
         if !self.powered() {
-            return WriteAnswer::Off;
+            return Err(PowerOff);
         }
         if page as usize >= self.count() {
-            return WriteAnswer::Done;
+            return Ok(());
         }
-        if self.left > 0 {
-            self.left -= 1;
-            return self.inner.write(page, bytes);
+        match self.left {
+            Some(0) => {}
+            Some(left) => {
+                self.left = Some(left - 1);
+                return self.inner.write(page, bytes);
+            }
+            None => return self.inner.write(page, bytes),
         }
         self.on = false;
-        // it does not fail again: no test writes so often
-        self.left = u32::MAX;
+        self.left = None;
         if let Some(image) = image_left(self.cut, bytes) {
             let _ = self.inner.write(page, &image);
         }
-        WriteAnswer::Off
+        Err(PowerOff)
     }
 
     fn wake(&mut self) {

@@ -6,7 +6,7 @@ use Rattle.std.proofs.lemmas.List.{get_or-set_same, get_or-set_other}
 use Rattle.order.specs.Lawful.{Says}
 use Rattle.device.specs.Disk.{Disk, Page, holds, unreadable, page_at, reaches, shown}
 use Rattle.device.specs.Writes.{lasts, written}
-use Rattle.device.specs.declared.ReadAnswer.TheVariants as read
+use Rattle.device.specs.declared.errors.ReadError.TheVariants as read
 use Rattle.tree.specs.Tree.{Image, edge, upper_of}
 use Rattle.tree.specs.Log.{Built, rebuild}
 use Rattle.tree.specs.Log.Built.{Done, Lost, Misfit}
@@ -40,7 +40,7 @@ module _ (says : Says) (w : World) (p n : ℕ) where
   checked-is (Some x) = refl
   checked-is None = refl
 
-  looked-is : (d : Bool) (q : Page) → looked says w p n (cond d (shown q) read.Off) ≡ planned says p n d q w.journal.on (image_at says w.journal p n)
+  looked-is : (d : Bool) (q : Page) → looked says w p n (cond d (shown q) (Err read.Off)) ≡ planned says p n d q w.journal.on (image_at says w.journal p n)
   unfolding stored_page
   looked-is true (holds b) = checked-is (passes n (stored_page says p (holds b)))
   looked-is true unreadable = checked-is None

@@ -5,7 +5,7 @@ use Rattle.field.specs.Fields.{word}
 use Rattle.record.specs.Layout.{Raw, FieldsFit, body, encode, parse}
 use Rattle.record.specs.Contents.{Content, format, put, remove, foster, adopt, grow, raw_of, content_in, measured, decode_record, decode_at}
 use Rattle.record.specs.Laws.{Fits}
-use Rattle.record.proofs.Images.{string-fits}
+use Rattle.record.proofs.Images.{string_fits}
 use Rattle.record.proofs.Decodes.{opened, content_fits}
 use Rattle.wal.specs.Journal.{Journal, entry_at, Entry, entry, lost}
 use Rattle.tree.specs.Log.{Change, Rec}
@@ -30,8 +30,8 @@ image-fits r h =
       other = omega arith;
       other_previous = omega arith;
       child = omega arith;
-      key = string-fits (encode r) 25 16 (leb-true (get_or (encode r) 25 0) 16 s.0);
-      value = string-fits (encode r) 42 64 (leb-true (get_or (encode r) 42 0) 64 s.1);
+      key = omega (arith, string_fits (encode r) 25, leb-true (get_or (encode r) 25 0) 16 s.0);
+      value = omega (arith, string_fits (encode r) 42, leb-true (get_or (encode r) 42 0) 64 s.1);
     }
 
 -- a record is the image of what it says

@@ -1,10 +1,11 @@
 -- Laws of fields: read back from where they were put, and tested by their zeros.
-use Rattle.std.proofs.Common.{◌≡◌, ℕ, ◌+◌, ◌-◌, ◌<◌, ◌≤◌, Bool, true, false, ◌&&◌, eqb, leb, List, ◌∷◌, ◌++◌, length, get_or, take, drop, replicate, Decides, sym, refl, ap, ◌∙◌, ap₂, one-add, arith}
+use Rattle.std.proofs.Math.Bool.{and_assoc, and-true}
+use Rattle.std.proofs.Math.ListN.{set}
+use Rattle.std.proofs.Common.{◌≡◌, ℕ, zero, suc, ◌+◌, ◌-◌, ◌<◌, ◌≤◌, Bool, true, false, ◌&&◌, eqb, leb, List, ◌∷◌, ◌++◌, length, get_or, take, drop, replicate, sym, refl, ap, ◌∙◌, ap₂, one-add, arith}
 use borrow.Rule.Slice.PartMut.{put_mid}
 use lib.Bits.{bit_or, or_add_and, and_le_l, and_le_r}
 use Rattle.std.proofs.lemmas.List.{take_at, drop_at, take-append-drop, drop-drop, drop_more, drop_all, drop-replicate, take_rest, length-take-le}
 use Rattle.std.proofs.lemmas.Bool.{and_parts, and_from, eqb-true, eq-eqb, le-leb, lt-leb}
-use Rattle.std.proofs.lemmas.Bool.Decides.{Decides-like}
 use Rattle.field.specs.Fields.{field, field_at, prefixed, are_zeros, is_field}
 
 pub put-drop : (a e : ℕ) (xs ys : List ℕ) → a ≤ e → e ≤ length xs → drop a (put_mid a (e - a) xs ys) ≡ ys ++ drop e xs
@@ -24,7 +25,7 @@ prefixed-is n image e =
     ∙ ap (λ (b : List ℕ). length k ∷ b) (take_at k (replicate (n - length k) 0) (length k) refl)
 
 -- a field reads back
-pub field_back : (n : ℕ) (k : List ℕ) → field_at (field n k) 0 ≡ k
+field_back : (n : ℕ) (k : List ℕ) → field_at (field n k) 0 ≡ k
 unfolding field field_at
 field_back n k = take_at k (replicate (n - length k) 0) (length k) refl
 
@@ -32,14 +33,6 @@ pub both-same : (x y : Bool) → (x ≡ true → y ≡ true) → (y ≡ true →
 both-same true y f g = sym (f refl)
 both-same false true f g = g refl
 both-same false false f g = refl
-
-and_assoc : (x y z : Bool) → ((x && y) && z) ≡ (x && (y && z))
-and_assoc true y z = refl
-and_assoc false y z = refl
-
-and-true : (x : Bool) → (x && true) ≡ x
-and-true true = refl
-and-true false = refl
 
 or-none : (a x : ℕ) → eqb (bit_or a x) 0 ≡ (eqb a 0 && eqb x 0)
 or-none a x =
@@ -74,7 +67,7 @@ field-long m f n e h =
     ∙ ap (λ (i : ℕ). leb i m && are_zeros (drop (1 + i) f)) e
 
 -- a string written behind its length into zeros
-pub filled : (n : ℕ) (s out : List ℕ) → length s ≤ n
+filled : (n : ℕ) (s out : List ℕ) → length s ≤ n
     → take (1 + length s) out ≡ take 1 (length s ∷ replicate n 0) ++ s
     → drop (1 + length s) out ≡ drop (1 + length s) (length s ∷ replicate n 0)
     → out ≡ field n s
@@ -83,6 +76,14 @@ filled n s out h front back =
     let zeros : drop (1 + length s) (length s ∷ replicate n 0) ≡ replicate (n - length s) 0 =
     ap (λ (i : ℕ). drop i (length s ∷ replicate n 0)) (one-add (length s)) ∙ drop-replicate (length s) n 0 in
     sym (take-append-drop (1 + length s) out) ∙ ap₂ (λ (x y : List ℕ). x ++ y) front (back ∙ zeros)
+
+pub filled-sized : (size : ℕ) (s out : List ℕ) → length s < size
+    → take (1 + length s) out ≡ take 1 (set (replicate size 0) 0 (length s)) ++ s
+    → drop (1 + length s) out ≡ drop (1 + length s) (set (replicate size 0) 0 (length s))
+    → out ≡ field (size - 1) s
+filled-sized zero s out h front back = absurd (omega arith)
+filled-sized (suc n) s out h front back =
+    let e : suc n - 1 ≡ n = omega arith in rw e (filled n s out (omega arith) front back)
 
 -- what a field that was filled so holds
 pub filled-length : (n : ℕ) (s out : List ℕ) → out ≡ field n s → get_or out 0 0 ≡ length s
@@ -94,8 +95,3 @@ filled_back n s out e = ap (λ (b : List ℕ). field_at b 0) e ∙ field_back n 
 
 pub filled_padded : (n : ℕ) (s out : List ℕ) → out ≡ field n s → out ≡ field n (field_at out 0)
 filled_padded n s out e = e ∙ ap (field n) (sym (filled_back n s out e))
-
--- whether two fields are the same tells whether they hold the same
-pub same-held : (n : ℕ) (x y : List ℕ) (r : Bool) → x ≡ field n (field_at x 0) → y ≡ field n (field_at y 0)
-    → Decides r (x ≡ y) → Decides r (field_at x 0 ≡ field_at y 0)
-same-held n x y r p q = Decides-like r (ap (λ (b : List ℕ). field_at b 0)) (λ e. p ∙ ap (field n) e ∙ sym q)

@@ -1,17 +1,17 @@
-// Byte strings of at most 16 and of at most 64 bytes, each held as its field, so that equal strings are equal values.
-ghost use Rattle.std.specs.Prelude.{◌≡◌, ◌≤◌, slice_index};
+// Byte strings of a greatest length, each held as its field, so that equal strings are equal values.
+ghost use Rattle.std.specs.Prelude.{◌≡◌, ◌-◌, ◌<◌, slice_index};
 ghost use Rattle.field.specs.Fields.{field, field_at};
 
-#[derive(Clone, Copy)]
-pub struct Key {
-    pub(crate) image: [u8; 17],
-    ghost fits: { slice_index image 0 ≤ 16 },
-    ghost padded: { image ≡ field 16 (field_at image 0) },
+/// A string of fewer than `SIZE` bytes, in a field of `SIZE`.
+#[derive(Clone, Copy, PartialEq, Eq)]
+pub struct Text<const SIZE: usize> {
+    pub(crate) image: [u8; SIZE],
+    ghost fits: { slice_index image 0 < SIZE },
+    ghost padded: { image ≡ field (SIZE - 1) (field_at image 0) },
 }
 
-#[derive(Clone, Copy)]
-pub struct Value {
-    pub(crate) image: [u8; 65],
-    ghost fits: { slice_index image 0 ≤ 64 },
-    ghost padded: { image ≡ field 64 (field_at image 0) },
-}
+/// At most 16 bytes.
+pub type Key = Text<17>;
+
+/// At most 64 bytes.
+pub type Value = Text<65>;

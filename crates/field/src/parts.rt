@@ -2,6 +2,7 @@
 ghost use Rattle.std.specs.Prelude.{◌≡◌, ◌+◌, ◌≤◌, ◌++◌, length, take, drop};
 
 // Writes a part at a place; what is before it and behind it stays.
+#[tactic(auto, using(std::proofs::lemmas::Slice::overwrites))]
 pub fn put(out: &mut [u8], at: usize, part: &[u8])
     requires { at + length part.now ≤ length out.old }
     ensures written { take (at + length part.now) out.new ≡ take at out.old ++ part.now }

@@ -3,6 +3,7 @@ ghost use Rattle.std.specs.Prelude.{◌≡◌, ◌+◌, ◌<◌, ◌≤◌, leng
 ghost use Rattle.field.specs.Fields.{are_zeros, field_at, half, is_field, word};
 
 // The 16-bit number at a place.
+#[tactic(auto, unfolding(crate::specs::Fields::half))]
 pub fn half_at(b: &[u8], at: usize) -> usize
     requires { at + 2 ≤ length b.now }
     ensures value { result ≡ half b.now at }
@@ -12,6 +13,7 @@ pub fn half_at(b: &[u8], at: usize) -> usize
 }
 
 // The 32-bit number at a place.
+#[tactic(auto, unfolding(crate::specs::Fields::word))]
 pub fn word_at(b: &[u8], at: usize) -> u32
     requires { at + 4 ≤ length b.now }
     ensures { result ≡ word b.now at }
@@ -20,6 +22,7 @@ pub fn word_at(b: &[u8], at: usize) -> u32
 }
 
 // The bytes behind a length byte.
+#[tactic(auto, unfolding(crate::specs::Fields::field_at))]
 pub fn field_at(b: &[u8], at: usize) -> &[u8]
     requires { at + 1 + slice_index b.now at ≤ length b.now }
     ensures { result.now ≡ field_at b.now at }

@@ -1,73 +1,66 @@
 // Keys and values made of bytes, and their bytes again.
-ghost use Rattle.std.specs.Prelude.{◌≡◌, ◌≤◌, length};
+ghost use Rattle.std.specs.Prelude.{◌≡◌, ◌-◌, ◌<◌, ◌≤◌, Decides, MatchResult, length, min};
 ghost use Rattle.field.specs.Fields.{field, prefixed};
-ghost use Rattle.field.specs.Held.{key_of, value_of};
+ghost use Rattle.field.specs.Held.{text_of};
 
-use crate::held::{Key, Value};
+use crate::held::Text;
 use crate::parts::put;
+use crate::reads::field_at;
 
-impl Key {
-    pub fn new(s: &[u8]) -> Key
-        requires { length s.now ≤ 16 }
-        ensures { key_of result ≡ s.now }
+impl<const SIZE: usize> Text<SIZE> {
+    pub fn new(s: &[u8]) -> Text<SIZE>
+        requires { length s.now < min SIZE 256 }
+        ensures { text_of result ≡ s.now }
     {
-        let mut image = [0; 17];
+        let mut image = [0; SIZE];
         image[0] = s.len() as u8;
         put(&mut image, 1, s);
-        Key { image }
+        Text { image }
     }
 
     pub fn bytes(&self) -> &[u8]
-        ensures { result.now ≡ key_of self.now }
+        ensures { result.now ≡ text_of self.now }
     {
-        &self.image[1..1 + usize::from(self.image[0])]
+        field_at(&self.image, 0)
     }
 
     // The length byte, and the bytes padded with zeros.
-    pub fn padded(&self) -> &[u8; 17]
-        ensures { result.now ≡ field 16 (key_of self.now) }
+    pub fn padded(&self) -> &[u8; SIZE]
+        ensures { result.now ≡ field (SIZE - 1) (text_of self.now) }
     {
         &self.image
     }
 
     // The length byte and the bytes.
     pub fn prefixed(&self) -> &[u8]
-        ensures { result.now ≡ prefixed (key_of self.now) }
+        ensures { result.now ≡ prefixed (text_of self.now) }
     {
-        let end = 1 + usize::from(self.image[0]);
-        &self.image[0..end]
+        let image = &self.image[..];
+        &image[..1 + usize::from(image[0])]
+    }
+
+    // Texts are equal if their bytes are.
+    pub fn holds_same(&self, other: &Text<SIZE>) -> bool
+        ensures { Decides result (text_of self.now ≡ text_of other.now) }
+    {
+        self == other
     }
 }
 
-impl Value {
-    pub fn new(s: &[u8]) -> Value
-        requires { length s.now ≤ 64 }
-        ensures { value_of result ≡ s.now }
-    {
-        let mut image = [0; 65];
-        image[0] = s.len() as u8;
-        put(&mut image, 1, s);
-        Value { image }
-    }
+/// Bytes that are too many for a text of their kind.
+#[derive(Clone, Copy, Debug, PartialEq, Eq)]
+pub struct TooLong;
 
-    pub fn bytes(&self) -> &[u8]
-        ensures { result.now ≡ value_of self.now }
-    {
-        &self.image[1..1 + usize::from(self.image[0])]
-    }
+impl<const SIZE: usize> TryFrom<&[u8]> for Text<SIZE> {
+    type Error = TooLong;
 
-    // The length byte, and the bytes padded with zeros.
-    pub fn padded(&self) -> &[u8; 65]
-        ensures { result.now ≡ field 64 (value_of self.now) }
-    {
-        &self.image
-    }
+    ghost try_from_gives = { λ s r. MatchResult r (λ t. (text_of t ≡ s.now) × (length s.now < min SIZE 256)) (λ _. min SIZE 256 ≤ length s.now) };
 
-    // The length byte and the bytes.
-    pub fn prefixed(&self) -> &[u8]
-        ensures { result.now ≡ prefixed (value_of self.now) }
-    {
-        let end = 1 + usize::from(self.image[0]);
-        &self.image[0..end]
+    fn try_from(s: &[u8]) -> Result<Text<SIZE>, TooLong> {
+        if s.len() < SIZE.min(256) {
+            Ok(Text::new(s))
+        } else {
+            Err(TooLong)
+        }
     }
 }

@@ -1,5 +1,5 @@
 -- The bitmap of a label that is printed at eight dots to the millimetre, one bit a dot.
-use Rattle.std.specs.Prelude.{List, [], ◌∷◌, ◌++◌, ◌≡◌, ℕ, ◌*◌, ◌/◌, ◌%◌}
+use Rattle.std.specs.Prelude.{decimal, List, [], ◌∷◌, ◌++◌, ◌≡◌, ℕ, ◌*◌, ◌/◌, ◌%◌}
 
 -- 8 * width by 8 * height dots, eight to the byte
 abbrev pub bitmap_bytes : ℕ → ℕ → ℕ
@@ -17,6 +17,10 @@ le8 n =
 -- a line of the label table: width and height in millimetres, and the bitmap's bytes
 abbrev pub line : ℕ → ℕ → List ℕ
 line width height = le2 width ++ (le2 height ++ le8 (bitmap_bytes width height))
+
+-- "50-30"
+abbrev pub size_text : ℕ → ℕ → List ℕ
+size_text width height = decimal width ++ (45 ∷ decimal height)
 
 -- three sizes with their bytes
 abbrev pub SizesInUse : Type 0

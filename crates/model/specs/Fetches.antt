@@ -1,9 +1,9 @@
 -- A page as the store comes by it: read and checked, or made again from its chain and written.
-use Rattle.std.specs.Prelude.{ℕ, zero, suc, cond, List, [], ◌∷◌, Some, None, Ok, Err, Option}
+use Rattle.std.specs.Prelude.{ℕ, zero, suc, cond, List, [], ◌∷◌, Some, None, Ok, Err, Option, Result}
 use Rattle.order.specs.Lawful.{Says}
 use Rattle.device.specs.Disk.{holds, reading}
-use Rattle.device.specs.declared.ReadAnswer.{ReadAnswer}
-use Rattle.device.specs.declared.ReadAnswer.TheVariants as read
+use Rattle.device.specs.declared.errors.ReadError.{ReadError}
+use Rattle.device.specs.declared.errors.ReadError.TheVariants as read
 use Rattle.wal.specs.Journal.{Journal, entry_at}
 use Rattle.tree.specs.Tree.{Image}
 use Rattle.tree.specs.Log.{Rec, Source, source, Built, rebuild}
@@ -57,10 +57,10 @@ checked says w p n (Some x) = ends (Ok x)
 checked says w p n None = mending says w p n
 
 -- what was read of page p, whose newest position is n
-abbrev pub looked : Says → World → ℕ → ℕ → ReadAnswer → Plan (Image Key Value)
-looked says w p n (read.Bytes b) = checked says w p n (passes n (stored_page says p (holds b)))
-looked says w p n read.Unreadable = mending says w p n
-looked says w p n read.Off = ends (Err PowerFailed)
+abbrev pub looked : Says → World → ℕ → ℕ → Result (List ℕ) ReadError → Plan (Image Key Value)
+looked says w p n (Ok b) = checked says w p n (passes n (stored_page says p (holds b)))
+looked says w p n (Err read.Unreadable) = mending says w p n
+looked says w p n (Err read.Off) = ends (Err PowerFailed)
 
 unfoldable pub fetching : Says → World → ℕ → Plan (Image Key Value)
 fetching says w p = looked says w p (newest w.index p) (reading w.disk p)

@@ -1,5 +1,7 @@
 -- A refusal as a number and the values that are told with it.
-use Rattle.std.specs.Prelude.{ℕ, List, [], ◌∷◌}
+use Rattle.std.specs.Prelude.{ℕ, zero, suc, List, [], ◌∷◌}
+use Rattle.model.specs.declared.refusal.Check.{Check}
+use Rattle.model.specs.declared.refusal.Check.TheVariants as check
 use Rattle.model.specs.declared.refusal.Refusal.{Refusal}
 use Rattle.model.specs.declared.refusal.Refusal.TheVariants.{KeyLength, ValueLength, Buffer, WorkList, Sizes, HasRecords, BadRecord, NotOpen, Absent, NoPage, LogFull, LostRecord, MisfitRecord, WrongPage, PowerFailed}
 
@@ -20,6 +22,20 @@ number_of (MisfitRecord p n) = 13
 number_of (WrongPage p c) = 14
 number_of PowerFailed = 15
 
+abbrev pub check_number : Check → ℕ
+check_number check.LowFence = 1
+check_number check.HighFence = 2
+check_number check.Level = 3
+check_number check.NotBorn = 4
+
+-- the check that a page of the tree fails, by its number there
+abbrev pub check_of : ℕ → Check
+check_of zero = check.NotBorn
+check_of (suc zero) = check.LowFence
+check_of (suc (suc zero)) = check.HighFence
+check_of (suc (suc (suc zero))) = check.Level
+check_of (suc (suc (suc (suc n)))) = check.NotBorn
+
 abbrev pub values_of : Refusal → List ℕ
 values_of KeyLength = []
 values_of ValueLength = []
@@ -34,5 +50,5 @@ values_of NoPage = []
 values_of LogFull = []
 values_of (LostRecord p n) = p ∷ n ∷ []
 values_of (MisfitRecord p n) = p ∷ n ∷ []
-values_of (WrongPage p c) = p ∷ c ∷ []
+values_of (WrongPage p c) = p ∷ check_number c ∷ []
 values_of PowerFailed = []

@@ -4,5 +4,5 @@
 pub mod refusal;
 pub mod state;
 
-pub use refusal::Refusal;
+pub use refusal::{Check, Refusal};
 pub use state::{State, Tended};

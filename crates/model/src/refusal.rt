@@ -1,6 +1,30 @@
 // Why a call is refused.
 ghost use Rattle.std.specs.Prelude.{◌≡◌};
-ghost use Rattle.model.specs.Refusals.{number_of};
+ghost use Rattle.model.specs.Refusals.{check_number, number_of};
+
+// What a page on a key's way is held against.
+#[derive(Clone, Copy, PartialEq, Eq, Debug, Drop)]
+pub enum Check {
+    LowFence,
+    HighFence,
+    Level,
+    // its number is that of no page yet
+    NotBorn,
+}
+
+impl From<Check> for u8 {
+    ghost from_gives = { λ check n. n ≡ check_number check };
+
+    // The number by which a check is told.
+    fn from(check: Check) -> u8 {
+        match check {
+            Check::LowFence => 1,
+            Check::HighFence => 2,
+            Check::Level => 3,
+            Check::NotBorn => 4,
+        }
+    }
+}
 
 #[derive(Clone, Copy, PartialEq, Eq, Debug, Drop)]
 pub enum Refusal {
@@ -30,14 +54,14 @@ pub enum Refusal {
     LostRecord { page: u32, position: u32 },
     // a record that the page needs does not fit it
     MisfitRecord { page: u32, position: u32 },
-    // the page is not what pointed to it says: 1 low fence, 2 high fence, 3 level, 4 not born
-    WrongPage { page: u32, check: u8 },
+    // the page is not what pointed to it says
+    WrongPage { page: u32, check: Check },
     // power failed in the call, or was off
     PowerFailed,
 }
 
 impl Refusal {
-    // The number by which a refusal is told.
+    // The number by which a refusal is told. No `From`: the page and the position are told behind it.
     pub fn number(self) -> u8
         ensures { result ≡ number_of self }
     {

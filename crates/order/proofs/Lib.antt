@@ -1,3 +1,2 @@
-mod Behind
-mod Numbers
+mod Bytes
 pub mod Steps

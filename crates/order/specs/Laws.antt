@@ -4,7 +4,7 @@ use Rattle.std.specs.declared.cmp.Ordering.TheVariants.{Less, Equal, Greater}
 use Rattle.std.proofs.Common.{arith}
 use Rattle.std.proofs.lemmas.Bool.Decides.{nat_tests}
 use Rattle.order.specs.Orders.{by_byte, by_length}
-use Rattle.order.specs.Lawful.{Says, Same, Itself, Turned, Chain, Least, Lawful}
+use Rattle.order.specs.Lawful.{Lawful}
 
 byte_same : (a b : List ℕ) → by_byte a b ≡ Equal → a ≡ b
 byte_same [] [] h = refl
@@ -75,7 +75,3 @@ length_lawful = record {
   chain = λ a b d _ _ _. length-chain a b d;
   least = λ a _. length-least a;
 }
-
--- generic code has the laws of its order one by one, as `g.met.O.KeyOrder.same`
-pub lawful_by : {says : Says} → Same says → Itself says → Turned says → Chain says → Least says → Lawful says
-lawful_by same itself turned chain least = record { same = same; itself = itself; turned = turned; chain = chain; least = least }

@@ -3,5 +3,4 @@ pub mod Lawful
 pub mod Lent
 pub mod Orders
 pub mod Slots
-pub mod Wide
 pub mod Laws

@@ -12,23 +12,9 @@ pub struct LengthFirst;
 impl KeyOrder for LengthFirst {
     ghost says = { by_length };
 
-    ghost same = { length_lawful.same };
-
-    ghost itself = { length_lawful.itself };
-
-    ghost turned = { length_lawful.turned };
-
-    ghost chain = { length_lawful.chain };
-
-    ghost least = { length_lawful.least };
+    ghost lawful = { length_lawful };
 
     fn compare(&self, a: &[u8], b: &[u8]) -> Ordering {
-        if a.len() < b.len() {
-            return Ordering::Less;
-        }
-        if b.len() < a.len() {
-            return Ordering::Greater;
-        }
-        by_byte(a, b)
+        a.len().cmp(&b.len()).then_with(|| by_byte(a, b))
     }
 }

@@ -22,23 +22,10 @@ impl KeyRow for LentKeys<'_, '_> {
     ghost keys = { λ row. behind row.0.now };
 
     fn count(&self) -> usize {
-        lent_count(self.0)
+        self.0.len()
     }
 
     fn key(&self, i: usize) -> &[u8] {
-        lent_key(self.0, i)
+        self.0[i]
     }
-}
-
-fn lent_count(keys: &[&[u8]]) -> usize
-    ensures { result ≡ length (behind keys.now) }
-{
-    keys.len()
-}
-
-fn lent_key<'a>(keys: &'a [&[u8]], i: usize) -> &'a [u8]
-    requires { i < length (behind keys.now) }
-    ensures { result.now ≡ key_at (behind keys.now) i }
-{
-    keys[i]
 }

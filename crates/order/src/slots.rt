@@ -9,12 +9,7 @@ use std::cmp::Ordering;
 pub fn ascends<O: KeyOrder, R: KeyRow>(order: &O, row: &R) -> bool
     ensures { Decides result (Ascending O.KeyOrder.says (R.KeyRow.keys row.now)) }
 {
-    for slot in 0..row.count() {
-        if !follows(order, row, slot) {
-            return false;
-        }
-    }
-    true
+    (0..row.count()).all(|slot| follows(order, row, slot))
 }
 
 // The key in the slot is short, and greater than the one before it.
@@ -23,10 +18,10 @@ fn follows<O: KeyOrder, R: KeyRow>(order: &O, row: &R, slot: usize) -> bool
     ensures { Decides result (Follows O.KeyOrder.says (R.KeyRow.keys row.now) slot) }
 {
     let key = row.key(slot);
-    key.len() <= MAX_KEY && (slot == 0 || order.compare(row.key(slot - 1), key) == Ordering::Less)
+    key.len() <= MAX_KEY && (slot == 0 || order.compare(row.key(slot - 1), key).is_lt())
 }
 
-// The slot that has the key, or else how many keys are less.
+// The slot that has the key, or else how many keys are less. Keys lie in slots, and there is no slice of them to search by the library.
 pub fn find<O: KeyOrder, R: KeyRow>(order: &O, row: &R, key: &[u8]) -> Result<usize, usize>
     requires ascending { Ascending O.KeyOrder.says (R.KeyRow.keys row.now) }
     requires short { length key.now ≤ 16 }
@@ -53,7 +48,6 @@ pub fn floor<O: KeyOrder, R: KeyRow>(order: &O, row: &R, key: &[u8]) -> Option<u
 {
     match find(order, row, key) {
         Ok(slot) => Some(slot),
-        Err(0) => None,
-        Err(less) => Some(less - 1),
+        Err(less) => less.checked_sub(1),
     }
 }

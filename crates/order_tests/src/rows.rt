@@ -23,8 +23,8 @@ fn answers<O: KeyOrder>(
 #[test]
 fn every_slot(rt: HostRuntime) -> Result<(), Fail> {
     let keys: [&[u8]; 5] = [b"", b"a", b"ab", b"b", b"\xff"];
-    for slot in 0..5 {
-        answers(&rt, &ByteOrder, &keys, keys[slot], Ok(slot), Some(slot))?;
+    for (slot, key) in keys.iter().enumerate() {
+        answers(&rt, &ByteOrder, &keys, key, Ok(slot), Some(slot))?;
     }
     Ok(())
 }

@@ -1,8 +1,7 @@
 -- The header that the code writes, and the content that it makes with some entries.
 use Rattle.std.specs.Prelude.{◌≡◌, ℕ, List, [], ◌∷◌, ◌++◌, Some, None, Option}
 use Rattle.field.specs.Fields.{le2, field}
-use Rattle.field.specs.Held.{key_of}
-use Rattle.field.specs.declared.held.Key.{Key}
+use Rattle.field.specs.Held.{Key, key_of}
 use Rattle.order.specs.Fences.{Bound}
 use Rattle.page.specs.Content.{Entry, Foster, Content, foster_key, foster_child}
 use Rattle.page.specs.Image.{bound_field}

@@ -30,6 +30,7 @@ impl EntryRow for Alone<'_> {
     }
 }
 
+// Empty by its type, where `Alone` is empty by its value only: so it can promise what any number reads as.
 #[derive(Clone, Copy)]
 pub struct NoEntries;
 

@@ -3,7 +3,8 @@ ghost use Rattle.std.specs.Prelude.{◌≡◌, ◌≤◌, take};
 ghost use Rattle.page.specs.Image.{entry_bytes};
 ghost use Rattle.page_build.specs.Fresh.{fresh_entry};
 
-// The longest has a key of 16 bytes and a value of 64, each behind its length.
+// The longest has a key of 16 bytes and a value of 64, each behind its length. A buffer of its own, since a copy of an `ArrayVec` is not
+// to be had; `branch` tells which of two kinds it is, and nothing but the clauses asks.
 #[derive(Clone, Copy)]
 pub struct Fresh {
     pub(crate) bytes: [u8; 82],

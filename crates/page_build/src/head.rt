@@ -12,31 +12,22 @@ use field::{Key, put};
 // The field of no bound: a length that no key has.
 const NO_BOUND: [u8; 17] = [255, 0, 0, 0, 0, 0, 0, 0, 0, 0, 0, 0, 0, 0, 0, 0, 0];
 
-fn bound_field(bound: &Option<Key>) -> [u8; 17]
-    ensures { result ≡ bound_field (bound_of bound.now) }
+fn bound_field(bound: &Option<Key>) -> &[u8; 17]
+    ensures { result.now ≡ bound_field (bound_of bound.now) }
 {
-    match bound {
-        Some(key) => *key.padded(),
-        None => NO_BOUND,
-    }
+    bound.as_ref().map_or(&NO_BOUND, Key::padded)
 }
 
-fn foster_field(foster: &Option<Foster>) -> [u8; 17]
-    ensures { result ≡ field 16 (foster_key (foster_of foster.now)) }
+fn foster_field(foster: &Option<Foster>) -> &[u8; 17]
+    ensures { result.now ≡ field 16 (foster_key (foster_of foster.now)) }
 {
-    match foster {
-        Some(f) => *f.key.padded(),
-        None => [0; 17],
-    }
+    foster.as_ref().map_or(&[0; 17], |f| f.key.padded())
 }
 
-fn foster_child(foster: &Option<Foster>) -> u32
-    ensures { result ≡ foster_child (foster_of foster.now) }
+fn foster_child(foster: Option<Foster>) -> u32
+    ensures { result ≡ foster_child (foster_of foster) }
 {
-    match foster {
-        Some(f) => f.child,
-        None => 0,
-    }
+    foster.map_or(0, |f| f.child)
 }
 
 // Written in the order of the layout, fillers too, so that each part ends where the next begins.
@@ -48,12 +39,12 @@ pub(crate) fn head(h: &Header, count: u16, start: u16) -> [u8; 72]
     put(&mut out, 4, &h.lsn.to_le_bytes());
     put(&mut out, 8, &[h.level, 0]);
     put(&mut out, 10, &count.to_le_bytes());
-    put(&mut out, 12, &foster_child(&h.foster).to_le_bytes());
+    put(&mut out, 12, &foster_child(h.foster).to_le_bytes());
     put(&mut out, 16, &start.to_le_bytes());
     put(&mut out, 18, &[0, 0]);
     put(&mut out, 20, h.low.padded());
-    put(&mut out, 37, &bound_field(&h.high));
-    put(&mut out, 54, &foster_field(&h.foster));
+    put(&mut out, 37, bound_field(&h.high));
+    put(&mut out, 54, foster_field(&h.foster));
     put(&mut out, 71, &[0]);
     out
 }

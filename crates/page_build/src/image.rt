@@ -9,7 +9,8 @@ use crate::head::head;
 use crate::header::Header;
 use crate::row::EntryRow;
 use field::{put, put_before};
-use seal::seal_512;
+use page::layout::{HEAP_END, SLOTS};
+use seal::seal_array;
 
 // What the slots and the heap of a page have between them.
 const ROOM: usize = 436;
@@ -21,12 +22,10 @@ fn fill<R: EntryRow>(out: &mut [u8; 512], row: &R) -> usize
     ensures start { result ≡ heap_start (R.EntryRow.entries row.now) }
     ensures after { out.new ≡ written (R.EntryRow.entries row.now) }
 {
-    let mut at = 508;
-    let mut slot = 72;
+    let mut at = HEAP_END;
     for i in 0..row.count() {
         at = put_before(out, at, row.entry(i));
-        put(out, slot, &(at as u16).to_le_bytes());
-        slot += 2;
+        put(out, SLOTS + 2 * i, &(at as u16).to_le_bytes());
     }
     at
 }
@@ -40,11 +39,11 @@ pub fn build<R: EntryRow>(h: &Header, row: &R) -> [u8; 512]
     let start = fill(&mut out, row);
     let top = head(h, row.count() as u16, start as u16);
     put(&mut out, 0, &top);
-    seal_512(&mut out);
+    seal_array(&mut out);
     out
 }
 
-// Whether the entries of a row fit a page.
+// Whether the entries of a row fit a page. Not a plain sum, which entries of any length could make overflow.
 fn fits<R: EntryRow>(row: &R) -> bool
     ensures { result ≡ nat_le (costs (R.EntryRow.entries row.now)) 436 }
 {

@@ -1,14 +1,13 @@
 // Pages for callers in C, in byte order: for tests and measurements beside other code.
 #![tactic(auto)]
 
-ghost use Rattle.std.specs.Prelude.{◌≡◌, true, ◌&&◌, length, take, if◌then◌else◌, nat_le};
+ghost use Rattle.std.specs.Prelude.{◌≡◌, ◌&&◌, length, take, if◌then◌else◌, nat_le};
 ghost use Rattle.order.specs.Orders.{by_byte};
-ghost use Rattle.page.specs.Form.{is_ordered, is_sound};
-ghost use Rattle.page.specs.Image.{parse_page};
+ghost use Rattle.page.specs.Form.{is_sound};
 
 use order::ByteOrder;
 use page::check;
-use page_view::PageView;
+use page_view::Ordered;
 
 // 1 if the first 512 bytes are a page, 0 if they are none or fewer.
 #[unsafe(no_mangle)]
@@ -18,7 +17,7 @@ pub extern "C" fn page_check(bytes: &[u8]) -> u32
     let Some((image, _)) = bytes.split_first_chunk::<512>() else {
         return 0;
     };
-    if check(&ByteOrder, image) { 1 } else { 0 }
+    u32::from(check(&ByteOrder, image))
 }
 
 // Looks for each key of eight bytes, so many times, and adds up the slots: a sum for a benchmark to hold on to.
@@ -27,32 +26,24 @@ pub extern "C" fn page_finds(bytes: &[u8], keys: &[u8], turns: u32) -> u64 {
     let Some((image, _)) = bytes.split_first_chunk::<512>() else {
         return 0;
     };
-    if check(&ByteOrder, image) {
-        finds(image, keys, turns)
-    } else {
-        0
+    match Ordered::new(&ByteOrder, image) {
+        Some(page) => finds(page, keys, turns),
+        None => 0,
     }
 }
 
-fn slot_of(page: PageView<'_>, key: &[u8; 8]) -> u64
-    requires { is_ordered by_byte (parse_page page.image.now) ≡ true }
-{
-    match page.find(&ByteOrder, key) {
+fn slot_of(page: Ordered<'_, ByteOrder>, key: &[u8; 8]) -> u64 {
+    match page.find(key) {
         Ok(i) => i as u64,
         Err(i) => i as u64,
     }
 }
 
-fn finds(image: &[u8; 512], keys: &[u8], turns: u32) -> u64
-    requires { is_sound by_byte image.now ≡ true }
-{
-    let page = PageView::new(image);
+fn finds(page: Ordered<'_, ByteOrder>, keys: &[u8], turns: u32) -> u64 {
     let mut sum = 0u64;
     for _ in 0..turns {
-        let mut rest = keys;
-        while let Some((key, after)) = rest.split_first_chunk::<8>() {
+        for key in keys.as_chunks::<8>().0 {
             sum = sum.wrapping_add(slot_of(page, key));
-            rest = after;
         }
     }
     sum

@@ -1,50 +1,41 @@
 -- Halves of a page.
-use Rattle.std.proofs.Common.{◌≡◌, ℕ, zero, suc, ◌+◌, ◌*◌, ◌<◌, ◌≤◌, Bool, cond, List, [], ◌∷◌, ◌++◌, length, get_or, take, drop, Some, None, Option, Ordering, Less, Equal, sym, refl, ap, ◌∙◌, subst, append-nil, suc-le-suc, zero-le, arith}
+use Rattle.std.proofs.Common.{◌≡◌, ℕ, zero, suc, ◌+◌, ◌*◌, ◌<◌, ◌≤◌, Bool, cond, nat_le, List, [], ◌∷◌, ◌++◌, length, get_or, take, drop, Some, None, Option, Ordering, Less, Equal, sym, refl, ap, ◌∙◌, subst, append-nil, suc-le-suc, zero-le, arith}
 use Rattle.std.specs.Ordering.{is_lt}
 use Rattle.std.proofs.lemmas.List.{drop_all}
 use Rattle.std.proofs.lemmas.Bool.{le-leb, lt-leb}
-use Rattle.field.specs.Held.{key_of}
-use Rattle.field.specs.declared.held.Key.{Key}
+use Rattle.field.specs.Held.{Key, key_of}
 use Rattle.order.specs.Fences.{Bound}
 use Rattle.order.specs.Lawful.{Says, Itself}
 use Rattle.order.specs.Slots.{Ascending}
 use Rattle.page.specs.Content.{Entry, Foster, Content, entry_key, keys_in, cost, costs}
 use Rattle.page.specs.Content.Entry.{leaf, branch}
-use Rattle.page.specs.Image.{entry_bytes}
-use Rattle.page.proofs.Entries.{cost-is}
 use Rattle.page_build.specs.declared.header.Header.{Header}
 use Rattle.page_build.specs.Spliced.{spliced}
 use Rattle.page_build.specs.Told.{content_of, Heads, bound_of, foster_of}
-use Rattle.page_build.proofs.Filling.{left-more, left-none}
 use Rattle.page_edit.specs.Edits.{halfway, below, from, lower_half, upper_half, grown_root}
 use Rattle.page_edit.proofs.Placing.{keys_length}
 
--- a turn of the loop that looks for the half
-halfway-at : (total spent : ℕ) (e : Entry) (es : List Entry) (bytes : List ℕ) → bytes ≡ entry_bytes e → spent + (2 + length bytes) ≡ spent + cost e
-halfway-at total spent e es bytes b = let c = cost-is e in let l = ap length b in omega arith
-
-module _ (es : List Entry) (i total spent : ℕ) (bytes : List ℕ) (h : i < length es) (b : bytes ≡ entry_bytes (get_or es i (leaf [] []))) where
-  pub half-found : total ≤ 2 * (spent + (2 + length bytes)) → halfway total spent (drop i es) ≡ 1
-  unfolding halfway
-  half-found w =
-      let s = halfway-at total spent (get_or es i (leaf [] [])) (drop (i + 1) es) bytes b in
-      ap (halfway total spent) (left-more es i h)
-      ∙ ap (λ (t : Bool). cond t 1 (suc (halfway total (spent + cost (get_or es i (leaf [] []))) (drop (i + 1) es))))
-      (le-leb total (2 * (spent + cost (get_or es i (leaf [] [])))) (omega arith))
-
-  pub half-further : 2 * (spent + (2 + length bytes)) < total
-      → halfway total spent (drop i es) ≡ suc (halfway total (spent + (2 + length bytes)) (drop (i + 1) es))
-  unfolding halfway
-  half-further w =
-      let s = halfway-at total spent (get_or es i (leaf [] [])) (drop (i + 1) es) bytes b in
-      ap (halfway total spent) (left-more es i h)
-      ∙ ap (λ (t : Bool). cond t 1 (suc (halfway total (spent + cost (get_or es i (leaf [] []))) (drop (i + 1) es))))
-      (lt-leb total (2 * (spent + cost (get_or es i (leaf [] [])))) (omega arith))
-      ∙ ap (λ (n : ℕ). suc (halfway total n (drop (i + 1) es))) (sym s)
-
-pub half-none : (es : List Entry) (i total spent : ℕ) → length es ≤ i → halfway total spent (drop i es) ≡ 0
+-- a loop's turn: the entry that comes is the first from which half is reached, or the ones behind it go on
+pub half_found : (e : Entry) (es all : List Entry) (total spent n : ℕ) → all ≡ e ∷ es → n ≡ cost e → total ≤ 2 * (spent + n) → halfway total spent all ≡ 1
 unfolding halfway
-half-none es i total spent h = ap (halfway total spent) (left-none es i h)
+half_found e es all total spent n a h w =
+    ap (halfway total spent) a ∙ ap (λ (m : ℕ). cond (nat_le total (2 * (spent + m))) 1 (suc (halfway total (spent + m) es))) (sym h)
+    ∙ ap (λ (t : Bool). cond t 1 (suc (halfway total (spent + n) es))) (le-leb total (2 * (spent + n)) w)
+
+pub half_further : (e : Entry) (es all : List Entry) (total spent n : ℕ) → all ≡ e ∷ es → n ≡ cost e → 2 * (spent + n) < total
+    → halfway total spent all ≡ suc (halfway total (spent + n) es)
+unfolding halfway
+half_further e es all total spent n a h w =
+    ap (halfway total spent) a ∙ ap (λ (m : ℕ). cond (nat_le total (2 * (spent + m))) 1 (suc (halfway total (spent + m) es))) (sym h)
+    ∙ ap (λ (t : Bool). cond t 1 (suc (halfway total (spent + n) es))) (lt-leb total (2 * (spent + n)) w)
+
+pub half_none : (all : List Entry) (total spent : ℕ) → all ≡ [] → halfway total spent all ≡ 0
+unfolding halfway
+half_none all total spent a = ap (halfway total spent) a
+
+pub costs_turn : (e : Entry) (es all : List Entry) (n : ℕ) → all ≡ e ∷ es → n ≡ cost e → costs all ≡ n + costs es
+unfolding costs
+costs_turn e es all n a h = ap costs a ∙ ap (λ (m : ℕ). m + costs es) (sym h)
 
 -- the entries below the key of a slot, and those from it on
 below-take : (says : Says) (key : List ℕ) (es : List Entry) (i : ℕ) → i < length es

@@ -1,21 +1,24 @@
 -- What a page keeps: costs, and headers that become contents.
-use Rattle.std.proofs.Common.{◌≡◌, ℕ, zero, suc, ◌+◌, ◌-◌, ◌≤◌, true, List, [], ◌∷◌, ◌++◌, length, take, drop, Some, None, Option, ap, ◌∙◌, arith, take-append-drop}
+use Rattle.std.proofs.Common.{◌≡◌, ℕ, zero, suc, ◌+◌, ◌-◌, ◌<◌, ◌≤◌, true, List, [], ◌∷◌, ◌++◌, length, get_or, take, drop, Some, None, Option, ap, ◌∙◌, arith, take-append-drop}
 use Rattle.std.proofs.lemmas.List.{drop-drop}
 use Rattle.std.proofs.lemmas.Bool.{leb-true}
 use Rattle.field.specs.Fields.{prefixed}
-use Rattle.field.specs.Held.{key_of}
-use Rattle.field.specs.declared.held.Key.{Key}
+use Rattle.field.specs.Held.{Key, key_of}
 use Rattle.order.specs.Fences.{Bound}
-use Rattle.page.specs.Content.{Entry, Foster, Content, cost, costs}
+use Rattle.order.specs.Lawful.{Says, Chain}
+use Rattle.order.specs.Slots.{Ascending}
+use Rattle.page.specs.Content.{Entry, Foster, Content, keys_in, cost, costs}
 use Rattle.page.specs.Content.Entry.{leaf, branch}
-use Rattle.page.specs.Form.{is_laid}
+use Rattle.page.specs.Form.{is_laid, is_ordered}
 use Rattle.page.specs.Image.{parse_page}
 use Rattle.page.proofs.Pages.{formed}
 use Rattle.page.proofs.Parsed.{form_of}
+use Rattle.page.proofs.Rises.{ascending}
 use Rattle.page_build.specs.declared.header.Header.{Header}
 use Rattle.page_build.specs.Spliced.{spliced}
 use Rattle.page_build.specs.Told.{content_of, Heads, bound_of, foster_of}
 use Rattle.page_build.proofs.Entering.{field-short}
+use Rattle.page_build.proofs.Filling.{left-more}
 use Rattle.page_edit.specs.Edits.{with_entries, after_adoption, grown_child}
 
 costs-append : (xs ys : List Entry) → costs (xs ++ ys) ≡ costs xs + costs ys
@@ -54,13 +57,26 @@ room b laid = leb-true (costs (parse_page b).entries) 436 (formed (parse_page b)
 pub few : (b : List ℕ) → is_laid b ≡ true → length (parse_page b).entries ≤ 436
 few b laid = let r = room b laid in let c = count-costs (parse_page b).entries in omega arith
 
+-- a loop's turn over the costs
+pub costs-next : (es : List Entry) (i n : ℕ) → i < length es → n ≡ cost (get_or es i (leaf [] [])) → costs (drop i es) ≡ n + costs (drop (i + 1) es)
+unfolding costs
+costs-next es i n h e = ap costs (left-more es i h) ∙ omega arith
+
 pub all-kept : (es : List Entry) (n : ℕ) → spliced es n [] n ≡ es
 unfolding spliced
 all-kept es n = take-append-drop n es
 
 pub key-short : (k : Key) → length (key_of k) ≤ 16
 unfolding prefixed
-key-short k = let h = field-short 16 k.image k.fits in omega arith
+key-short k = let h = field-short 16 k.image (omega (arith, k.fits)) in omega arith
+
+pub bytes-short : (k : Key) (bytes : List ℕ) → bytes ≡ key_of k → length bytes ≤ 16
+bytes-short k bytes e = let h = key-short k in let l = ap length e in omega arith
+
+-- under its order the keys of a page ascend
+pub keys_ascend : {says : Says} → Chain says → (b : List ℕ) → is_laid b ≡ true → is_ordered says (parse_page b) ≡ true
+    → Ascending says (keys_in (parse_page b).entries)
+keys_ascend chain b laid ordered = ascending chain (parse_page b) (form_of b laid) ordered
 
 mk : ℕ → ℕ → ℕ → List ℕ → Bound → Option Foster → List Entry → Content
 mk a b c d e f g = record { number = a; lsn = b; level = c; low = d; high = e; foster = f; entries = g }

@@ -1,7 +1,6 @@
 // A page divided in two.
-ghost use Rattle.std.specs.Prelude.{◌≡◌, ◌<◌, true, length};
-ghost use Rattle.page.specs.Content.{costs, entry_at, entry_key};
-ghost use Rattle.page.specs.Form.{is_ordered};
+ghost use Rattle.std.specs.Prelude.{◌≡◌, ◌<◌, length};
+ghost use Rattle.page.specs.Content.{cost, costs, entry_at, entry_key};
 ghost use Rattle.page.specs.Image.{encode_page, parse_page};
 ghost use Rattle.field.specs.Held.{key_of};
 ghost use Rattle.page_edit.specs.Edits.{first_half, lower_half, upper_half};
@@ -10,17 +9,13 @@ use crate::kept::kept;
 use field::Key;
 use order::KeyOrder;
 use page_build::{Foster, Header};
-use page_view::PageView;
+use page_view::{Ordered, PageView};
 
 // What the entries of a page cost of its 436 bytes.
 pub fn cost(page: PageView<'_>) -> usize
     ensures { result ≡ costs (parse_page page.entry.image.now).entries }
 {
-    let mut sum = 0;
-    for i in 0..page.count() {
-        sum += 2 + page.entry(i).len();
-    }
-    sum
+    page.entries().map(|entry| entry.cost()).sum()
 }
 
 // The slot whose key divides a page: the entries before it are the fewest that cost at least half of all.
@@ -28,57 +23,43 @@ pub fn divider(page: PageView<'_>) -> usize
     ensures { result ≡ first_half (parse_page page.entry.image.now).entries }
 {
     let total = cost(page);
+    // A loop, since each turn asks for the sum so far: `scan` and `position` would say no more in two closures.
     let mut spent = 0;
-    for i in 0..page.count() {
-        spent += 2 + page.entry(i).len();
+    for entry in page.entries() {
+        spent += entry.cost();
         if total <= 2 * spent {
-            return i + 1;
+            return entry.slot() + 1;
         }
     }
     page.count()
 }
 
-fn slot_key<O: KeyOrder>(_order: &O, page: PageView<'_>, slot: usize) -> Key
-    requires ordered { is_ordered O.KeyOrder.says (parse_page page.image.now) ≡ true }
-    requires within { slot < length (parse_page page.image.now).entries }
-    ensures { key_of result ≡ entry_key (entry_at (parse_page page.entry.image.now) slot) }
+fn slot_key<O: KeyOrder>(page: Ordered<'_, O>, slot: usize) -> Key
+    requires { slot < length (parse_page page.view.image.now).entries }
+    ensures { key_of result ≡ entry_key (entry_at (parse_page page.entry.view.image.now) slot) }
 {
-    Key::new(page.key(slot))
+    Key::new(page.view.entry(slot).key())
 }
 
 // The page without its entries from a slot on, which its new foster child has.
-pub fn lower_half<O: KeyOrder>(
-    order: &O,
-    page: PageView<'_>,
-    lsn: u32,
-    slot: usize,
-    other: u32,
-) -> [u8; 512]
-    requires ordered { is_ordered O.KeyOrder.says (parse_page page.image.now) ≡ true }
-    requires within { slot < length (parse_page page.image.now).entries }
-    ensures { result ≡ encode_page (lower_half O.KeyOrder.says lsn (entry_key (entry_at (parse_page page.entry.image.now) slot)) other (parse_page page.entry.image.now)) }
+pub fn lower_half<O: KeyOrder>(page: Ordered<'_, O>, lsn: u32, slot: usize, other: u32) -> [u8; 512]
+    requires { slot < length (parse_page page.view.image.now).entries }
+    ensures { result ≡ encode_page (lower_half O.KeyOrder.says lsn (entry_key (entry_at (parse_page page.entry.view.image.now) slot)) other (parse_page page.entry.view.image.now)) }
 {
-    let key = slot_key(order, page, slot);
-    let mut h = Header::of(page, lsn);
+    let key = slot_key(page, slot);
+    let mut h = Header::of(page.view, lsn);
     h.foster = Some(Foster { key, child: other });
-    kept(&h, page, slot, page.count())
+    kept(&h, page.view, slot, page.view.count())
 }
 
 // The new page with the entries from that slot on.
-pub fn upper_half<O: KeyOrder>(
-    order: &O,
-    page: PageView<'_>,
-    lsn: u32,
-    slot: usize,
-    other: u32,
-) -> [u8; 512]
-    requires ordered { is_ordered O.KeyOrder.says (parse_page page.image.now) ≡ true }
-    requires within { slot < length (parse_page page.image.now).entries }
-    ensures { result ≡ encode_page (upper_half O.KeyOrder.says lsn (entry_key (entry_at (parse_page page.entry.image.now) slot)) other (parse_page page.entry.image.now)) }
+pub fn upper_half<O: KeyOrder>(page: Ordered<'_, O>, lsn: u32, slot: usize, other: u32) -> [u8; 512]
+    requires { slot < length (parse_page page.view.image.now).entries }
+    ensures { result ≡ encode_page (upper_half O.KeyOrder.says lsn (entry_key (entry_at (parse_page page.entry.view.image.now) slot)) other (parse_page page.entry.view.image.now)) }
 {
-    let key = slot_key(order, page, slot);
-    let mut h = Header::of(page, lsn);
+    let key = slot_key(page, slot);
+    let mut h = Header::of(page.view, lsn);
     h.number = other;
     h.low = key;
-    kept(&h, page, 0, slot)
+    kept(&h, page.view, 0, slot)
 }

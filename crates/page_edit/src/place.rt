@@ -1,8 +1,7 @@
 // Entries put into a page and taken out of it.
-ghost use Rattle.std.specs.Prelude.{◌≡◌, true};
+ghost use Rattle.std.specs.Prelude.{◌≡◌};
 ghost use Rattle.field.specs.Held.{key_of, value_of};
 ghost use Rattle.page.specs.Content.{entry_key};
-ghost use Rattle.page.specs.Form.{is_ordered};
 ghost use Rattle.page.specs.Image.{parse_page};
 ghost use Rattle.page_build.specs.Entered.{entry_in};
 ghost use Rattle.page_edit.specs.Edits.{after_adopting, after_put, after_remove, fitting_image, has, image_if, placed, with_entries};
@@ -12,34 +11,31 @@ use crate::kept::kept;
 use field::{Key, Value};
 use order::KeyOrder;
 use page_build::{Fresh, Header, Spliced, fitted};
-use page_view::PageView;
+use page_view::Ordered;
 
 // How many entries stay before an entry with this key, and where those behind it begin.
-fn room_for<O: KeyOrder>(order: &O, page: PageView<'_>, key: &Key) -> (usize, usize)
-    requires { is_ordered O.KeyOrder.says (parse_page page.image.now) ≡ true }
-    ensures { Parts O.KeyOrder.says (key_of key.now) (parse_page page.entry.image.now).entries result.0 result.1 }
+fn room_for<O: KeyOrder>(page: Ordered<'_, O>, key: &Key) -> (usize, usize)
+    ensures { Parts O.KeyOrder.says (key_of key.now) (parse_page page.entry.view.image.now).entries result.0 result.1 }
 {
-    match page.find(order, key.bytes()) {
+    match page.find(key.bytes()) {
         Ok(i) => (i, i + 1),
         Err(i) => (i, i),
     }
 }
 
 fn place<'a, O: KeyOrder>(
-    order: &O,
-    page: PageView<'a>,
+    page: Ordered<'a, O>,
     lsn: u32,
     key: &Key,
     fresh: &'a Fresh,
 ) -> Option<[u8; 512]>
-    requires ordered { is_ordered O.KeyOrder.says (parse_page page.image.now) ≡ true }
-    requires same { entry_key (entry_in fresh.now) ≡ key_of key.now }
-    ensures { result ≡ fitting_image (with_entries lsn (placed O.KeyOrder.says (entry_in fresh.now) (parse_page page.entry.image.now).entries) (parse_page page.entry.image.now)) }
+    requires { entry_key (entry_in fresh.now) ≡ key_of key.now }
+    ensures { result ≡ fitting_image (with_entries lsn (placed O.KeyOrder.says (entry_in fresh.now) (parse_page page.entry.view.image.now).entries) (parse_page page.entry.view.image.now)) }
 {
-    let h = Header::of(page, lsn);
-    let (keep, resume) = room_for(order, page, key);
+    let h = Header::of(page.view, lsn);
+    let (keep, resume) = room_for(page, key);
     let row = Spliced {
-        old: page,
+        old: page.view,
         keep,
         fresh: Some(fresh),
         resume,
@@ -49,40 +45,35 @@ fn place<'a, O: KeyOrder>(
 
 // A leaf in which the key has the value, if there is room. The bytes of a value that is replaced are free.
 pub fn put<O: KeyOrder>(
-    order: &O,
-    page: PageView<'_>,
+    page: Ordered<'_, O>,
     lsn: u32,
     key: &Key,
     value: &Value,
 ) -> Option<[u8; 512]>
-    requires { is_ordered O.KeyOrder.says (parse_page page.image.now) ≡ true }
-    ensures { result ≡ fitting_image (after_put O.KeyOrder.says lsn (key_of key.now) (value_of value.now) (parse_page page.entry.image.now)) }
+    ensures { result ≡ fitting_image (after_put O.KeyOrder.says lsn (key_of key.now) (value_of value.now) (parse_page page.entry.view.image.now)) }
 {
-    place(order, page, lsn, key, &Fresh::of_leaf(key, value))
+    place(page, lsn, key, &Fresh::of_leaf(key, value))
 }
 
 // A branch that gained an entry, if there is room.
 pub fn adopt<O: KeyOrder>(
-    order: &O,
-    page: PageView<'_>,
+    page: Ordered<'_, O>,
     lsn: u32,
     key: &Key,
     child: u32,
 ) -> Option<[u8; 512]>
-    requires { is_ordered O.KeyOrder.says (parse_page page.image.now) ≡ true }
-    ensures { result ≡ fitting_image (after_adopting O.KeyOrder.says lsn (key_of key.now) child (parse_page page.entry.image.now)) }
+    ensures { result ≡ fitting_image (after_adopting O.KeyOrder.says lsn (key_of key.now) child (parse_page page.entry.view.image.now)) }
 {
-    place(order, page, lsn, key, &Fresh::of_branch(key, child))
+    place(page, lsn, key, &Fresh::of_branch(key, child))
 }
 
 // A leaf without the key, if it was there.
-pub fn remove<O: KeyOrder>(order: &O, page: PageView<'_>, lsn: u32, key: &Key) -> Option<[u8; 512]>
-    requires { is_ordered O.KeyOrder.says (parse_page page.image.now) ≡ true }
-    ensures { result ≡ image_if (has O.KeyOrder.says (key_of key.now) (parse_page page.entry.image.now).entries) (after_remove O.KeyOrder.says lsn (key_of key.now) (parse_page page.entry.image.now)) }
+pub fn remove<O: KeyOrder>(page: Ordered<'_, O>, lsn: u32, key: &Key) -> Option<[u8; 512]>
+    ensures { result ≡ image_if (has O.KeyOrder.says (key_of key.now) (parse_page page.entry.view.image.now).entries) (after_remove O.KeyOrder.says lsn (key_of key.now) (parse_page page.entry.view.image.now)) }
 {
-    let h = Header::of(page, lsn);
-    match page.find(order, key.bytes()) {
-        Ok(i) => Some(kept(&h, page, i, i + 1)),
+    let h = Header::of(page.view, lsn);
+    match page.find(key.bytes()) {
+        Ok(i) => Some(kept(&h, page.view, i, i + 1)),
         Err(_) => None,
     }
 }

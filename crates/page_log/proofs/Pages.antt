@@ -1,31 +1,27 @@
 -- What the calls of a log on pages come to.
-use Rattle.std.proofs.Common.{◌≡◌, ℕ, zero, suc, ◌+◌, ◌-◌, ◌^◌, ◌<◌, ◌≤◌, min, Bool, true, false, cond, ltb, ◌⊎◌, List, [], ◌∷◌, ◌++◌, length, get_or, take, drop, set, replicate, sym, refl, ap, ◌∙◌, ap₂, inl, inr, ⊎_elim, arith, length-append, length-set, length-take}
+use Rattle.std.proofs.Common.{◌≡◌, ℕ, zero, suc, ◌+◌, ◌-◌, ◌^◌, ◌<◌, ◌≤◌, Bool, true, false, cond, ◌⊎◌, List, [], ◌∷◌, ◌++◌, length, get_or, take, drop, set, replicate, sym, refl, ap, ◌∙◌, ap₂, inl, inr, ⊎_elim, Result, Ok, Err, is_ok, IsErrAnd, arith, length-append, length-set, length-take}
 use Rattle.std.specs.Str.{bytes_eq}
+use Rattle.std.specs.Result.{result_eq}
 use Rattle.std.proofs.lemmas.Slice.Eq.{bytes_eq-Decides}
 use Rattle.std.proofs.lemmas.List.{take-append-drop, take-append-le, take_at, take-take, drop-take, drop-replicate, take-replicate, get_or-take, get_or_past, get_or-set_same, set-get_or, take-set}
-use Rattle.std.proofs.lemmas.Bool.{lt-ltb, and_from, eq-eqb, cond-true, cond-false, and_left, false≢true, le-ltb}
+use Rattle.std.proofs.lemmas.Bool.{and_from, eq-eqb, cond-true, cond-false, and_left, false≢true}
 use Rattle.seal.specs.Crc.{crc}
 use Rattle.seal.specs.Laws.{Bytes}
 use Rattle.seal.specs.Seal.{le4, sealed}
 use Rattle.seal.proofs.Seals.{sealed_passes}
-use Rattle.device.specs.Disk as device
 use Rattle.device.specs.Disk.{Disk, Page, holds, unreadable, intact, page_at}
-use Rattle.device.specs.declared.ReadAnswer.TheVariants as got
 use Rattle.device.specs.Writes as page
-use Rattle.device.specs.declared.WriteAnswer.{WriteAnswer}
-use Rattle.device.specs.declared.WriteAnswer.TheVariants as write
 use Rattle.device.proofs.Outcomes as outcome
 use Rattle.wal.specs.Journal.{Journal, Entry, entry, lost, shown, reading, measured}
 use Rattle.wal.specs.Records.{stamped, passes}
 use Rattle.wal.specs.Appends.{Fate, lasts, added, not_added, longer, row_after, power_after, appended, answer, Appended}
 use Rattle.wal.specs.Slots.{slot, slots, room, LastPassing}
-use Rattle.wal.specs.declared.AppendAnswer.TheVariants as append
-use Rattle.wal.specs.declared.LengthAnswer.TheVariants as len
-use Rattle.wal.specs.declared.RecordAnswer.{RecordAnswer}
-use Rattle.wal.specs.declared.RecordAnswer.TheVariants as read
+use Rattle.wal.specs.declared.errors.AppendError.{AppendError}
+use Rattle.wal.specs.declared.errors.AppendError.TheVariants as append
+use Rattle.wal.specs.declared.errors.RecordError.{RecordError}
 use Rattle.wal.proofs.Stamps.{bytes-append, bytes-zeros, bytes-stamped, length-stamped, carries}
-use Rattle.wal.proofs.Rows.{length-slots, slot_of, slots_set, entry-within, entry_zero, entry_past, slot-stands, row_more, last_more, going, row-length, full-append, grows, answers-added}
-use Rattle.page_log.specs.Pages.{paged, page_room, page_slots, looked, holds_record, with_last, reach, page_journal, EndsAtLast, Laid}
+use Rattle.wal.proofs.Rows.{length-slots, slot_of, slots_set, entry-within, slot-stands, row_more, last_more, last-fits, going, row-length, full-append, grows, answers-added}
+use Rattle.page_log.specs.Pages.{paged, page_room, page_slots, looked, holds_record, with_last, reach, page_journal, EndsAtLast}
 
 -- the page of a record, as it is put together
 pub page-is : (out r : List ℕ) → length r ≡ 128 → take (0 + length r) out ≡ take 0 (replicate 512 0) ++ r → drop (0 + length r) out ≡ drop (0 + length r) (replicate 512 0) → sealed (take 508 out) ≡ paged r
@@ -62,22 +58,22 @@ pub slot-in : (d : Disk) (n : ℕ) → 0 < n → n ≤ page_room d → get_or (p
 slot-in d n from within = slot_of n (take (page_room d) d.pages) from ∙ ap (slot n) (get_or-take (page_room d) d.pages (n - 1) unreadable (omega arith))
 
 -- what a look tells
-shown-lost : (e : Entry) → ((bs : List ℕ) → shown e ≡ read.Record bs → ⊥) → e ≡ lost
-shown-lost (entry bs) none = absurd (none bs refl)
-shown-lost lost none = refl
+is-lost : (e : Entry) → false ≡ is_ok (shown e) → e ≡ lost
+is-lost (entry bs) none = absurd (false≢true none)
+is-lost lost none = refl
 
-shown-record : (e : Entry) (bs : List ℕ) → read.Record bs ≡ shown e → e ≡ entry bs
-shown-record (entry b) bs e = cc
-shown-record lost bs e = let z : ◌≡◌ {A = ℕ} 0 1 = cc in absurd (omega arith)
+is-held : (e : Entry) → true ≡ is_ok (shown e) → e ≡ lost → ⊥
+is-held (entry bs) found gone = cc
+is-held lost found gone = false≢true (sym found)
 
 look_on : (d : Disk) (n : ℕ) → d.on ≡ true → 0 < n → n ≤ page_room d → looked d n ≡ shown (get_or (page_slots d) (n - 1) lost)
 look_on d n on from within = cond-true _ _ _ on ∙ sym (ap shown (slot-in d n from within))
 
-pub look_fails : (d : Disk) (n : ℕ) (r : RecordAnswer) → d.on ≡ true → 0 < n → n ≤ page_room d → r ≡ looked d n → ((bs : List ℕ) → r ≡ read.Record bs → ⊥) → get_or (page_slots d) (n - 1) lost ≡ lost
-look_fails d n r on from within is none = shown-lost _ (λ bs e. none bs (is ∙ look_on d n on from within ∙ e))
+pub look_fails : (d : Disk) (n : ℕ) → d.on ≡ true → 0 < n → n ≤ page_room d → false ≡ is_ok (looked d n) → get_or (page_slots d) (n - 1) lost ≡ lost
+look_fails d n on from within none = is-lost _ (none ∙ ap is_ok (look_on d n on from within))
 
-pub look_finds : (d : Disk) (n : ℕ) (bs : List ℕ) → d.on ≡ true → 0 < n → n ≤ page_room d → read.Record bs ≡ looked d n → get_or (page_slots d) (n - 1) lost ≡ entry bs
-look_finds d n bs on from within is = shown-record _ bs (is ∙ look_on d n on from within)
+pub look_finds : (d : Disk) (n : ℕ) → d.on ≡ true → 0 < n → n ≤ page_room d → true ≡ is_ok (looked d n) → get_or (page_slots d) (n - 1) lost ≡ lost → ⊥
+look_finds d n on from within found = is-held _ (found ∙ ap is_ok (look_on d n on from within))
 
 -- the row once power is back
 pub last_past : (d : Disk) (u : ℕ) (r : List ℕ) → page_room d ≤ u → u ≡ with_last (page_slots d) u r
@@ -89,83 +85,43 @@ same_true xs ys = (bytes_eq-Decides xs ys).1
 same_from : (xs ys : List ℕ) → bytes_eq xs ys ≡ true → xs ≡ ys
 same_from xs ys = (bytes_eq-Decides xs ys).0
 
-same_false : (xs ys : List ℕ) → (xs ≡ ys → ⊥) → (b : Bool) → bytes_eq xs ys ≡ b → b ≡ false
-same_false xs ys other true e = absurd (other (same_from xs ys e))
-same_false xs ys other false e = refl
+-- a look that compares equal to a record is one at a slot that holds it
+told-held : (same : RecordError → RecordError → Bool) (r : List ℕ) (e : Entry) → result_eq bytes_eq same (shown e) (Ok r) ≡ holds_record r e
+told-held same r (entry bs) = refl
+told-held same r lost = refl
 
-behind : (d : Disk) (u : ℕ) (e : Entry) → get_or (page_slots d) (u + 1 - 1) lost ≡ e → get_or (page_slots d) u lost ≡ e
-behind d u e is = let q : u ≡ u + 1 - 1 = omega arith in ap (λ (i : ℕ). get_or (page_slots d) i lost) q ∙ is
-
-pub last_found : (d : Disk) (u : ℕ) (bs r : List ℕ) → get_or (page_slots d) (u + 1 - 1) lost ≡ entry bs → bs ≡ r → u + 1 ≡ with_last (page_slots d) u r
-last_found d u bs r is same = sym (cond-true _ _ _ (ap (holds_record r) (behind d u (entry bs) is) ∙ same_true bs r same))
-
-pub last-other : (d : Disk) (u : ℕ) (bs r : List ℕ) → get_or (page_slots d) (u + 1 - 1) lost ≡ entry bs → (bs ≡ r → ⊥) → u ≡ with_last (page_slots d) u r
-last-other d u bs r is other = sym (cond-false _ _ _ (ap (holds_record r) (behind d u (entry bs) is) ∙ same_false bs r other (bytes_eq bs r) refl))
-
-pub last-lost : (d : Disk) (u : ℕ) (r : List ℕ) → get_or (page_slots d) (u + 1 - 1) lost ≡ lost → u ≡ with_last (page_slots d) u r
-last-lost d u r is = sym (cond-false _ _ _ (ap (holds_record r) (behind d u lost is)))
-
--- a read that gave bytes
-module _ (d : Disk) (n : ℕ) (bs : List ℕ) (r : RecordAnswer) (told : r ≡ shown (slot n (holds bs))) where
-  by-page : (x : Bool) (q : Page) → got.Bytes bs ≡ cond x (device.shown q) got.Off → r ≡ cond x (shown (slot n q)) read.Off
-  by-page true (holds cs) is = let same : bs ≡ cs = cc in told ∙ ap (λ (l : List ℕ). shown (slot n (holds l))) same
-  by-page true unreadable is = let z : ◌≡◌ {A = ℕ} 0 1 = cc in absurd (omega arith)
-  by-page false q is = let z : ◌≡◌ {A = ℕ} 0 1 = cc in absurd (omega arith)
-
-  pub look_bytes : got.Bytes bs ≡ device.reading d (n - 1) → r ≡ looked d n
-  look_bytes = by-page d.on (page_at d (n - 1))
+pub last-told : (same : RecordError → RecordError → Bool) (d : Disk) (u : ℕ) (r : List ℕ) (x : Bool) → d.on ≡ true → u < page_room d → x ≡ result_eq bytes_eq same (looked d (u + 1)) (Ok r) → cond x (u + 1) u ≡ with_last (page_slots d) u r
+last-told same d u r x on free is =
+    let one : u + 1 - 1 ≡ u = omega arith in
+    ap (λ (b : Bool). cond b (u + 1) u)
+    (is ∙ ap (λ (a : Result (List ℕ) RecordError). result_eq bytes_eq same a (Ok r)) (look_on d (u + 1) on (omega arith) (omega arith))
+    ∙ told-held same r (get_or (page_slots d) (u + 1 - 1) lost) ∙ ap (λ (i : ℕ). holds_record r (get_or (page_slots d) i lost)) one)
 
 -- a log that is on
 pub journal-on : (d : Disk) (u : ℕ) (r : List ℕ) → true ≡ d.on → page_journal d u r ≡ going (page_room d) (page_slots d) u true
 journal-on d u r on = rw (sym on)
 
-pub journal-fits : (d : Disk) (u : ℕ) (r : List ℕ) → length (page_journal d u r).records ≤ page_room d
-journal-fits d u r = omega (arith, length-take (reach d u r) (page_slots d), length-pages d)
+pub journal_fits : (d : Disk) (u : ℕ) (r : List ℕ) → length (page_journal d u r).records ≤ page_room d
+journal_fits d u r = omega (arith, length-take (reach d u r) (page_slots d), length-pages d)
 
-pub length-told : (d : Disk) (u n : ℕ) (r : List ℕ) → true ≡ d.on → n ≡ min u (page_room d) → len.Records n ≡ measured (page_journal d u r)
-length-told d u n r on is =
-    ap len.Records (is ∙ sym (row-length (page_room d) (page_slots d) u [] (length-pages d))) ∙ sym (ap measured (journal-on d u r on))
+-- while on, the row ends at the last slot that passes, so it fits
+pub ends-on : (d : Disk) (u : ℕ) (r : List ℕ) → true ≡ d.on → EndsAtLast d u r → LastPassing (page_slots d) u
+ends-on d u r on ends = rw (cond-true d.on u (with_last (page_slots d) u r) (sym on)) at ends
+
+pub used-fits : (d : Disk) (u : ℕ) (r : List ℕ) → true ≡ d.on → EndsAtLast d u r → u ≤ page_room d
+used-fits d u r on ends = omega (arith, last-fits (page_slots d) u (ends-on d u r on ends), length-pages d)
+
+pub length-told : (d : Disk) (u : ℕ) (r : List ℕ) → true ≡ d.on → EndsAtLast d u r → Ok u ≡ measured (page_journal d u r)
+length-told d u r on ends =
+    ap Ok (omega (arith, row-length (page_room d) (page_slots d) u [] (length-pages d), used-fits d u r on ends)) ∙ sym (ap measured (journal-on d u r on))
 
 -- what a read finds inside the row, and outside
 pub read-inside : (d : Disk) (u n : ℕ) (r : List ℕ) → true ≡ d.on → (n ≡ 0 → ⊥) → n ≤ u → n ≤ page_room d → looked d n ≡ reading (page_journal d u r) n
 read-inside d u n r on z h within =
     look_on d n (sym on) (omega arith) within ∙ sym (ap (λ (j : Journal). reading j n) (journal-on d u r on) ∙ ap shown (entry-within (page_slots d) n u z h))
 
-pub read-zero : (d : Disk) (u n : ℕ) (r : List ℕ) → true ≡ d.on → n ≡ 0 → read.Lost ≡ reading (page_journal d u r) n
-read-zero d u n r on z = sym (ap (λ (j : Journal). reading j n) (journal-on d u r on) ∙ ap shown (entry_zero (take u (page_slots d)) n z))
-
-pub read_past : (d : Disk) (u n : ℕ) (r : List ℕ) → true ≡ d.on → min u (page_room d) < n → read.Lost ≡ reading (page_journal d u r) n
-read_past d u n r on h =
-    sym (ap (λ (j : Journal). reading j n) (journal-on d u r on)
-    ∙ ap shown (entry_past (take u (page_slots d)) n (omega (arith, row-length (page_room d) (page_slots d) u [] (length-pages d)))))
-
-pub append-full : (d : Disk) (u : ℕ) (r bs : List ℕ) → true ≡ d.on → page_room d ≤ u → Appended (page_journal d u r) bs append.Full (page_journal d u r)
+pub append-full : (d : Disk) (u : ℕ) (r bs : List ℕ) → true ≡ d.on → page_room d ≤ u → Appended (page_journal d u r) bs (Err append.Full) (page_journal d u r)
 append-full d u r bs on h = rw (journal-on d u r on) (full-append (page_room d) (page_slots d) u bs (length-pages d) h)
-
-pub append-off : (d : Disk) (u : ℕ) (r bs : List ℕ) → false ≡ d.on → Appended (page_journal d u r) bs append.Off (page_journal d u r)
-append-off d u r bs off = record { fate = lasts; leaves = sym (cond-false _ _ _ (sym off)); answers = sym (cond-false _ _ _ (sym off)) }
-
--- what an append leaves on the device
-pub laid_full : (d : Disk) (u : ℕ) (bs : List ℕ) → page_room d ≤ u → Laid d u bs d
-laid_full d u bs h = record { fate = page.lasts; leaves = sym (cond-false _ _ _ (le-ltb u (page_room d) h)) }
-
-pub laid_off : (d : Disk) (u : ℕ) (bs : List ℕ) → false ≡ d.on → Laid d u bs d
-laid_off d u bs off =
-    record {
-      fate = page.lasts;
-      leaves = sym (ap (λ (x : Disk). cond (ltb u (page_room d)) x d) (cond-false _ _ _ (and_left _ _ (sym off))) ∙ same_twice (ltb u (page_room d)));
-    }
-  where
-    same_twice : (b : Bool) → cond b d d ≡ d
-    same_twice true = refl
-    same_twice false = refl
-
-pub laid_by : (d e : Disk) (u : ℕ) (bs r image : List ℕ) (a : WriteAnswer) → u < page_room d → r ≡ stamped (u + 1) bs → image ≡ paged r → page.Wrote d u image a e → Laid d u bs e
-laid_by d e u bs r image a free stamps lays w =
-    record {
-      fate = w.fate;
-      leaves = w.leaves ∙ ap (page.written w.fate d u) (lays ∙ ap paged stamps) ∙ sym (cond-true _ _ _ (lt-ltb u (page_room d) free));
-    }
 
 -- the slots after one page was set
 set-taken : (n i : ℕ) (ps : List Page) (q : Page) → take n (set ps i q) ≡ set (take n ps) i q
@@ -217,9 +173,9 @@ module _ (d e : Disk) (u : ℕ) (old bs r image : List ℕ) (on : true ≡ d.on)
   grown : (f : Fate) (k : Journal) → k ≡ record { capacity = page_room d; records = row_after f (take u es) bs; on = power_after f } → k ≡ appended f (page_journal d u old) bs
   grown f k is = is ∙ sym (ap (λ (j : Journal). appended f j bs) (journal-on d u old on) ∙ grows (page_room d) es u bs (length-pages d) f free)
 
-  module _ (w : page.Wrote d u image write.Done e) where
+  module _ (w : page.Wrote d u image (Ok tt) e) where
     done-is : e ≡ outcome.changed page.lasts d u image
-    done-is = outcome.finished_unless_off d e u image write.Done w outcome.done-not-off ∙ written_is page.lasts
+    done-is = outcome.finished_unless_off d e u image (Ok tt) w outcome.done-not-off ∙ written_is page.lasts
 
     done_on : true ≡ e.on
     done_on = sym (ap (λ (x : Disk). x.on) done-is)
@@ -230,7 +186,7 @@ module _ (d e : Disk) (u : ℕ) (old bs r image : List ℕ) (on : true ≡ d.on)
     done-slots : page_slots e ≡ set es u (entry r)
     done-slots = set-slots d e u (holds image) done-pages ∙ ap (set es u) new-stands
 
-    pub append-done : Appended (page_journal d u old) bs (append.Added (u + 1)) (page_journal e (u + 1) r)
+    pub append-done : Appended (page_journal d u old) bs (Ok (u + 1)) (page_journal e (u + 1) r)
     append-done =
         record {
           fate = lasts;
@@ -246,7 +202,7 @@ module _ (d e : Disk) (u : ℕ) (old bs r image : List ℕ) (on : true ≡ d.on)
         let none : LastPassing es u = rw (cond-true d.on u (with_last es u old) (sym on)) at ends in
         rw (cond-true e.on (u + 1) (with_last (page_slots e) (u + 1) r) (sym done_on), done-slots) (last_more es u bs r inside none.beyond)
 
-  module _ (w : page.Wrote d u image write.Off e) where
+  module _ (w : page.Wrote d u image (Err page.power_off) e) where
     left : Page
     left = page.left_by w.fate (page_at d u) (holds image)
 
@@ -277,10 +233,10 @@ module _ (d e : Disk) (u : ℕ) (old bs r image : List ℕ) (on : true ≡ d.on)
         ap₂ (λ (m : ℕ) (p : Bool). record { capacity = m; records = take (reach e u r) (page_slots e); on = p }) (set_room d e u left cut-pages) off
         ∙ ap₂ (λ (m : ℕ) (l : List Entry). going (page_room d) l m false) is cut-slots
 
-    tells : append.Off ≡ answer (page_journal d u old) e.on
+    tells : Err append.Off ≡ answer (page_journal d u old) e.on
     tells = sym (cond-false e.on _ _ off)
 
-    by-slot : (b : Bool) → holds_record r x ≡ b → Appended (page_journal d u old) bs append.Off (page_journal e u r)
+    by-slot : (b : Bool) → holds_record r x ≡ b → Appended (page_journal d u old) bs (Err append.Off) (page_journal e u r)
     by-slot true is =
         record {
           fate = added;
@@ -295,8 +251,9 @@ module _ (d e : Disk) (u : ℕ) (old bs r image : List ℕ) (on : true ≡ d.on)
           answers = tells;
         }
 
-    pub append-cut : Appended (page_journal d u old) bs append.Off (page_journal e u r)
-    append-cut = by-slot (holds_record r x) refl
+    pub append-cut : (a : Result ℕ AppendError) → IsErrAnd a (λ e. e ≡ append.Off) → Appended (page_journal d u old) bs a (page_journal e u r)
+    append-cut (Ok n) failed = absurd failed
+    append-cut (Err e) failed = rw failed (by-slot (holds_record r x) refl)
 
     -- the slot behind the row has the record, or nothing that passes
     cut-slot : get_or es u lost ≡ lost → (x ≡ entry r) ⊎ (x ≡ lost)

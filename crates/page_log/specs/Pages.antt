@@ -1,5 +1,5 @@
 -- A log on a page device, one record a page.
-use Rattle.std.specs.Prelude.{◌≡◌, ℕ, ◌+◌, ◌-◌, Bool, false, cond, List, ◌++◌, length, take, replicate, nat_lt, slice_index_or}
+use Rattle.std.specs.Prelude.{◌≡◌, ℕ, ◌+◌, ◌-◌, Bool, false, cond, List, ◌++◌, length, take, replicate, nat_lt, slice_index_or, Result, Err}
 use Rattle.std.specs.Str.{bytes_eq}
 use Rattle.seal.specs.Seal.{sealed}
 use Rattle.device.specs.Disk.{Disk, page_at}
@@ -7,8 +7,8 @@ use Rattle.wal.specs.Journal.{Journal, Entry, entry, lost, shown}
 use Rattle.device.specs.Writes.{Fate, written}
 use Rattle.wal.specs.Records.{stamped}
 use Rattle.wal.specs.Slots.{slot, slots, room, LastPassing}
-use Rattle.wal.specs.declared.RecordAnswer.{RecordAnswer}
-use Rattle.wal.specs.declared.RecordAnswer.TheVariants as read
+use Rattle.wal.specs.declared.errors.RecordError.{RecordError}
+use Rattle.wal.specs.declared.errors.RecordError.TheVariants.{Off}
 
 -- the page of a record: its bytes, zeros, and the page's seal
 unfoldable pub paged : List ℕ → List ℕ
@@ -21,8 +21,8 @@ abbrev pub page_slots : Disk → List Entry
 page_slots d = slots 1 (take (page_room d) d.pages)
 
 -- what a look at the slot of a position tells
-abbrev pub looked : Disk → ℕ → RecordAnswer
-looked d n = cond d.on (shown (slot n (page_at d (n - 1)))) read.Off
+abbrev pub looked : Disk → ℕ → Result (List ℕ) RecordError
+looked d n = cond d.on (shown (slot n (page_at d (n - 1)))) (Err Off)
 
 abbrev pub holds_record : List ℕ → Entry → Bool
 holds_record r (entry bs) = bytes_eq bs r

@@ -1,12 +1,12 @@
 // The pages of a device as slots of a log.
 ghost use Rattle.std.specs.Prelude.{◌≡◌, ◌<◌, true};
 ghost use Rattle.wal.specs.Slots.{LastPassing};
-ghost use Rattle.page_log.specs.Pages.{looked, paged, page_room, page_slots, with_last};
+ghost use Rattle.page_log.specs.Pages.{looked, paged, page_slots, with_last};
 
-use device::{PageDevice, ReadAnswer};
+use device::PageDevice;
 use field::put;
-use seal::seal_512;
-use wal::{RecordAnswer, record_in};
+use seal::seal_array;
+use wal::{RecordError, record_in, room};
 
 // The page of a record.
 pub fn page_of(record: &[u8; 128]) -> [u8; 512]
@@ -14,46 +14,31 @@ pub fn page_of(record: &[u8; 128]) -> [u8; 512]
 {
     let mut page = [0; 512];
     put(&mut page, 0, record);
-    seal_512(&mut page);
+    seal_array(&mut page);
     page
 }
 
-pub fn room<D: PageDevice>(device: &D) -> u32
-    ensures { result ≡ page_room (D.disk device.now) }
-{
-    let count = device.count();
-    if count < u32::MAX as usize {
-        count as u32
-    } else {
-        u32::MAX
-    }
-}
-
-pub fn record_at<D: PageDevice>(device: &mut D, position: u32) -> RecordAnswer
+pub fn record_at<D: PageDevice>(device: &mut D, position: u32) -> Result<[u8; 128], RecordError>
     requires { 0 < position }
     ensures value { result ≡ looked (D.disk device.old) position }
     ensures same { D.disk device.new ≡ D.disk device.old }
 {
-    match device.read(position - 1) {
-        ReadAnswer::Bytes(bytes) => record_in(&bytes, position),
-        ReadAnswer::Unreadable => RecordAnswer::Lost,
-        ReadAnswer::Off => RecordAnswer::Off,
-    }
+    let page = device.read(position - 1)?;
+    record_in(&page, position)
 }
 
+// `SlotLog`'s scan, over a device: one function for both would take a trait of slots, its laws and two impls for these lines.
 pub fn last_passing<D: PageDevice>(device: &mut D) -> u32
     requires { (D.disk device.old).on ≡ true }
     ensures value { LastPassing (page_slots (D.disk device.old)) result }
     ensures same { D.disk device.new ≡ D.disk device.old }
 {
-    let mut position = room(device);
-    while position > 0 {
-        if let RecordAnswer::Record(_) = record_at(device, position) {
-            break;
+    for position in (1..=room(device.count())).rev() {
+        if record_at(device, position).is_ok() {
+            return position;
         }
-        position -= 1;
     }
-    position
+    0
 }
 
 // How far a row of `used` positions reaches when the append of `last` was cut off.
@@ -62,13 +47,8 @@ pub fn with_last<D: PageDevice>(device: &mut D, used: u32, last: &[u8; 128]) -> 
     ensures value { result ≡ with_last (page_slots (D.disk device.old)) used last.now }
     ensures same { D.disk device.new ≡ D.disk device.old }
 {
-    if used >= room(device) {
-        return used;
-    }
-    if let RecordAnswer::Record(found) = record_at(device, used + 1) {
-        if found == *last {
-            return used + 1;
-        }
+    if used < room(device.count()) && record_at(device, used + 1) == Ok(*last) {
+        return used + 1;
     }
     used
 }

@@ -3,7 +3,9 @@
 // child, and the entries: key and value in a leaf, key and child in a branch. `-` is an empty string, and `*` no bound.
 #![tactic(auto)]
 
+use hex::FromHex;
 use order::ByteOrder;
+use page::layout::MAX_VALUE;
 use page_build::{EntryRow, Header, Spliced, fitted};
 use page_view::{Page, PageView};
 use std::io;
@@ -66,10 +68,7 @@ fn is_told(page: PageView<'_>, mut words: SplitWhitespace<'_>) -> bool {
     if !(numbers & low & is_bound(high, page.high()) & is_bound(upper, page.upper())) {
         return false;
     }
-    let (key, child) = match page.foster() {
-        Some(f) => (Some(f.key), f.child),
-        None => (None, 0),
-    };
+    let (key, child) = page.foster().map_or((None, 0), |f| (Some(f.key), f.child));
     is_bound(foster, key) & is_number(words.next(), child) && are_entries_told(page, words)
 }
 
@@ -82,20 +81,19 @@ fn is_built_again(page: PageView<'_>, image: &[u8; 512]) -> bool {
         fresh: None,
         resume: n,
     };
-    match fitted(&Header::of(page, page.lsn()), &row) {
-        Some(again) => again == *image,
-        None => false,
-    }
+    fitted(&Header::of(page, page.lsn()), &row) == Some(*image)
 }
 
 fn are_entries_told(page: PageView<'_>, mut words: SplitWhitespace<'_>) -> bool {
-    for i in 0..page.count() {
-        let entry = if page.level() == 0 {
-            is_bytes(words.next(), page.key(i)) & is_bytes(words.next(), page.value(i))
+    for entry in page.entries() {
+        let key = is_bytes(words.next(), entry.key());
+        let other = words.next();
+        let told = if page.level() == 0 {
+            is_bytes(other, entry.value())
         } else {
-            is_bytes(words.next(), page.key(i)) & is_number(words.next(), page.child(i))
+            is_number(other, entry.child())
         };
-        if !entry {
+        if !(key & told) {
             return false;
         }
     }
@@ -103,13 +101,7 @@ fn are_entries_told(page: PageView<'_>, mut words: SplitWhitespace<'_>) -> bool 
 }
 
 fn is_number(word: Option<&str>, n: u32) -> bool {
-    match word {
-        Some(w) => match w.parse::<u32>() {
-            Ok(m) => m == n,
-            Err(_) => false,
-        },
-        None => false,
-    }
+    word.and_then(|w| w.parse().ok()) == Some(n)
 }
 
 fn is_bound(word: Option<&str>, bound: Option<&[u8]>) -> bool {
@@ -121,43 +113,21 @@ fn is_bound(word: Option<&str>, bound: Option<&[u8]>) -> bool {
 
 fn is_bytes(word: Option<&str>, bytes: &[u8]) -> bool {
     match word {
-        Some(w) => (w == "-") & bytes.is_empty() || is_hex(w.as_bytes(), bytes),
+        Some("-") => bytes.is_empty(),
+        Some(w) => is_hex(w, bytes),
         None => false,
     }
 }
 
-fn is_hex(digits: &[u8], bytes: &[u8]) -> bool {
-    if digits.len() / 2 != bytes.len() {
+// No key or value is longer than 64 bytes.
+fn is_hex(digits: &str, bytes: &[u8]) -> bool {
+    let mut read = [0; MAX_VALUE];
+    let Some(read) = read.get_mut(..bytes.len()) else {
         return false;
-    }
-    for i in 0..bytes.len() {
-        if byte(digits[2 * i], digits[2 * i + 1]) != bytes[i] {
-            return false;
-        }
-    }
-    true
+    };
+    hex::decode_to_slice(digits, read).is_ok() && *read == *bytes
 }
 
 fn image_of(word: Option<&str>) -> Option<[u8; 512]> {
-    let digits = word?.as_bytes();
-    if digits.len() != 1024 {
-        return None;
-    }
-    let mut image = [0; 512];
-    for i in 0..512 {
-        image[i] = byte(digits[2 * i], digits[2 * i + 1]);
-    }
-    Some(image)
-}
-
-fn byte(high: u8, low: u8) -> u8 {
-    digit(high).wrapping_mul(16).wrapping_add(digit(low))
-}
-
-fn digit(c: u8) -> u8 {
-    match c {
-        b'0'..=b'9' => c - b'0',
-        b'a'..=b'f' => c - b'a' + 10,
-        _ => 0,
-    }
+    <[u8; 512] as FromHex>::from_hex(word?).ok()
 }

@@ -1,3 +1,4 @@
 pub mod Decoded
 pub mod Lent
 pub mod Places
+pub mod Entries

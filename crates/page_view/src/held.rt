@@ -38,15 +38,6 @@ impl Page {
     pub fn view(&self) -> PageView<'_>
         ensures { result.image.now ≡ self.now.image }
     {
-        PageView { image: &self.image }
-    }
-}
-
-impl<'a> PageView<'a> {
-    pub fn new(image: &'a [u8; 512]) -> PageView<'a>
-        requires { is_laid image.now ≡ true }
-        ensures { result.image.now ≡ image.now }
-    {
-        PageView { image }
+        PageView::new(&self.image)
     }
 }

@@ -2,11 +2,14 @@
 #![tactic(auto)]
 
 mod access;
+mod entries;
 mod held;
+mod ordered;
 mod owned;
-mod parts;
 mod row;
 mod view;
 
+pub use entries::Entries;
+pub use ordered::Ordered;
 pub use owned::Page;
-pub use view::{FosterView, PageView};
+pub use view::{EntryView, FosterView, PageView};

@@ -12,6 +12,6 @@ impl KeyRow for PageView<'_> {
     }
 
     fn key(&self, i: usize) -> &[u8] {
-        PageView::key(self, i)
+        PageView::entry(self, i).key()
     }
 }

@@ -10,7 +10,7 @@ use Rattle.seal.specs.Seal.{le4}
 use Rattle.record.specs.Layout.{Raw, Word, FieldsFit, body, encode, parse}
 use Rattle.record.specs.Contents.{Content, format, put, remove, foster, adopt, grow, raw_of, encode_record, keyed_in, content_in, measured, if_image}
 use Rattle.record.specs.Laws.{IsKey, Fits, ImageReadsBack, OneImage, DecodedFits, ImageHas128Bytes, ImageIsSealed}
-use Rattle.record.proofs.Images.{fields_back, lengths_back, body-length, string-fits}
+use Rattle.record.proofs.Images.{fields_back, lengths_back, body-length, string_fits}
 use Rattle.record.proofs.Parts.{by-fields}
 use Rattle.record.proofs.Sealed.{image-passes}
 
@@ -117,8 +117,8 @@ parsed_fits b w h =
       other = word_fits b 12 w;
       other_previous = word_fits b 16 w;
       child = word_fits b 20 w;
-      key = string-fits b 25 16 (leb-true (get_or b 25 0) 16 s.0);
-      value = string-fits b 42 64 (leb-true (get_or b 42 0) 64 s.1);
+      key = omega (arith, string_fits b 25, leb-true (get_or b 25 0) 16 s.0);
+      value = omega (arith, string_fits b 42, leb-true (get_or b 42 0) 64 s.1);
     }
 
 -- a content that was chosen by a test

@@ -16,9 +16,9 @@ key_back k z x s =
     let e : ((k ++ z) ++ x) ++ s ≡ k ++ (z ++ (x ++ s)) = simp append_assoc in
     ap (take (length k)) e ∙ take_at k (z ++ (x ++ s)) (length k) refl
 
-pub string-fits : (b : List ℕ) (i n : ℕ) → get_or b i 0 ≤ n → length (field_at b i) ≤ n
+pub string_fits : (b : List ℕ) (i : ℕ) → length (field_at b i) ≤ get_or b i 0
 unfolding field_at
-string-fits b i n h = let l = length-take (get_or b i 0) (drop (i + 1) b) in omega arith
+string_fits b i = let l = length-take (get_or b i 0) (drop (i + 1) b) in omega arith
 
 -- a field behind n bytes
 module _ (p v z o s : List ℕ) (n : ℕ) (e : length p ≡ n) where

@@ -12,14 +12,11 @@ impl Record {
         ensures { change_of result ≡ page_in (content_of self.now) }
     {
         match *self {
-            Record::Format => Change {
-                page: 0,
-                previous: 0,
-            },
-            Record::Put { page, previous, .. } => Change { page, previous },
-            Record::Remove { page, previous, .. } => Change { page, previous },
-            Record::Foster { page, previous, .. } => Change { page, previous },
-            Record::Adopt { page, previous, .. } => Change { page, previous },
+            Record::Format => Change::default(),
+            Record::Put { page, previous, .. }
+            | Record::Remove { page, previous, .. }
+            | Record::Foster { page, previous, .. }
+            | Record::Adopt { page, previous, .. } => Change { page, previous },
             Record::Grow { previous, .. } => Change { page: 0, previous },
         }
     }
@@ -30,7 +27,7 @@ impl Record {
     {
         match *self {
             Record::Format | Record::Put { .. } | Record::Remove { .. } => None,
-            Record::Foster { other, .. } => Some(Change {
+            Record::Foster { other, .. } | Record::Grow { other, .. } => Some(Change {
                 page: other,
                 previous: 0,
             }),
@@ -42,20 +39,13 @@ impl Record {
                 page: other,
                 previous: other_previous,
             }),
-            Record::Grow { other, .. } => Some(Change {
-                page: other,
-                previous: 0,
-            }),
         }
     }
 
     pub(crate) fn other_or_none(&self) -> Change
         ensures { change_of result ≡ unwrap_or (other_in (content_of self.now)) (0, 0) }
     {
-        self.other().unwrap_or(Change {
-            page: 0,
-            previous: 0,
-        })
+        self.other().unwrap_or_default()
     }
 
     // The position of the record that changed a page before this one did, if this one does.
@@ -66,9 +56,7 @@ impl Record {
         if first.page == page {
             return Some(first.previous);
         }
-        match self.other() {
-            Some(second) if second.page == page => Some(second.previous),
-            _ => None,
-        }
+        let second = self.other()?;
+        (second.page == page).then_some(second.previous)
     }
 }

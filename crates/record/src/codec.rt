@@ -45,20 +45,15 @@ impl Record {
         }
         let fields = Fields::from_bytes(b);
         let content = fields.content()?;
-        if content.has_image(fields.position, b) {
-            Some((fields.position, content))
-        } else {
-            None
-        }
+        let is_its_image = content.has_image(fields.position, b);
+        is_its_image.then_some((fields.position, content))
     }
 
     // The record of an image that holds this position.
     pub fn from_bytes_at(position: u32, b: &[u8; 128]) -> Option<Record>
         ensures { content_option result ≡ decode_at position b.now }
     {
-        match Record::from_bytes(b) {
-            Some((held, content)) if held == position => Some(content),
-            _ => None,
-        }
+        let (held, content) = Record::from_bytes(b)?;
+        (held == position).then_some(content)
     }
 }

@@ -41,7 +41,7 @@ pub enum Record {
 }
 
 // A page that a record changes, and the position of the record that changed it before, 0 for a page that is new.
-#[derive(Clone, Copy, PartialEq, Eq, Debug)]
+#[derive(Clone, Copy, PartialEq, Eq, Debug, Default)]
 pub struct Change {
     pub page: u32,
     pub previous: u32,

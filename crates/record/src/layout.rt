@@ -4,9 +4,9 @@ ghost use Rattle.record.specs.Layout.{FieldsFit, encode, parse};
 ghost use Rattle.record.specs.Model.{fields_of};
 
 use crate::fields::Fields;
-use crate::puts::{put_key, put_value, put_word};
-use field::{Key, Value, put, word_at};
-use seal::seal_128;
+use crate::puts::{put_text, put_word};
+use field::{Key, Value, field_at, put, word_at};
+use seal::seal_array;
 
 impl Fields {
     pub(crate) fn to_bytes(&self) -> [u8; 128]
@@ -21,20 +21,19 @@ impl Fields {
         put_word(&mut out, 16, self.other_previous);
         put_word(&mut out, 20, self.child);
         put(&mut out, 24, &[self.kind]);
-        put_key(&mut out, 25, &self.key);
-        put_value(&mut out, 42, &self.value);
-        seal_128(&mut out);
+        put_text(&mut out, 25, &self.key);
+        put_text(&mut out, 42, &self.value);
+        seal_array(&mut out);
         out
     }
 
     // What stands in the fields, whether or not the rest of the image is as it should be.
+    #[tactic(auto, using(crate::proofs::Images::string_fits), unfolding(crate::specs::Layout::parse))]
     pub(crate) fn from_bytes(b: &[u8; 128]) -> Fields
         requires key { slice_index b.now 25 ≤ 16 }
         requires value { slice_index b.now 42 ≤ 64 }
         ensures { fields_of result ≡ parse b.now }
     {
-        let key_end = 26 + usize::from(b[25]);
-        let value_end = 43 + usize::from(b[42]);
         Fields {
             position: word_at(b, 0),
             page: word_at(b, 4),
@@ -43,8 +42,8 @@ impl Fields {
             other_previous: word_at(b, 16),
             child: word_at(b, 20),
             kind: b[24],
-            key: Key::new(&b[26..key_end]),
-            value: Value::new(&b[43..value_end]),
+            key: Key::new(field_at(b, 25)),
+            value: Value::new(field_at(b, 42)),
         }
     }
 }

@@ -5,14 +5,14 @@
 mod tests {
     use field::Value;
     use record::{Change, EntryKey, Record};
-    use seal::seal_128;
+    use seal::seal_array;
     use std::test::Fail;
 
     fn put(key: &[u8], value: Value) -> Option<Record> {
         Some(Record::Put {
             page: 3,
             previous: 5,
-            key: EntryKey::new(key)?,
+            key: EntryKey::try_from(key).ok()?,
             value,
         })
     }
@@ -33,7 +33,7 @@ mod tests {
         if at < 128 {
             other[at] = byte;
         }
-        seal_128(&mut other);
+        seal_array(&mut other);
         Record::from_bytes(&other).is_none()
     }
 
@@ -47,9 +47,9 @@ mod tests {
 
     #[test]
     fn keys_have_1_to_16_bytes(rt: HostRuntime) {
-        assert!(rt; EntryKey::new(&[]).is_none());
-        assert!(rt; EntryKey::new(&[1; 17]).is_none());
-        assert!(rt; EntryKey::new(&[1; 16]).is_some());
+        assert!(rt; EntryKey::try_from(&[][..]).is_err());
+        assert!(rt; EntryKey::try_from(&[1; 17][..]).is_err());
+        assert!(rt; EntryKey::try_from(&[1; 16][..]).is_ok());
     }
 
     #[test]
@@ -103,7 +103,7 @@ mod tests {
             previous: 4,
             other: 9,
         };
-        assert!(rt; grow.kind() == 6);
+        assert!(rt; u8::from(grow.kind()) == 6);
         assert!(rt;
             grow.page()
                 == Change {

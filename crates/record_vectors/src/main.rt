@@ -1,7 +1,6 @@
 // Holds records to the images in records.txt, in both directions.
 #![tactic(auto)]
 
-mod hex;
 mod vector;
 
 use std::{fs, io};

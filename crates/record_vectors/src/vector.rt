@@ -1,8 +1,9 @@
 // A line of the vectors: an image, the position that it is read at, and then the word `refused` or the other fields.
-use crate::hex::fill;
-use field::Value;
-use record::{EntryKey, Record};
+use field::{Key, Text, Value};
+use hex::FromHex;
+use record::{EntryKey, Kind, Record};
 
+#[derive(Clone, Copy)]
 pub(crate) enum Outcome {
     Kept,
     Refused,
@@ -10,73 +11,58 @@ pub(crate) enum Outcome {
 }
 
 fn image_of(word: &str) -> Option<[u8; 128]> {
-    let mut image = [0; 128];
-    if fill(&mut image, word.as_bytes()) {
-        Some(image)
-    } else {
-        None
-    }
+    <[u8; 128] as FromHex>::from_hex(word).ok()
 }
 
 fn number(word: &str) -> Option<u32> {
     word.parse::<u32>().ok()
 }
 
-// No bytes are written `-`.
-fn value_of(word: &str) -> Option<Value> {
-    let digits = if word == "-" { "" } else { word };
-    let n = digits.len() / 2;
-    if n > 64 {
-        return None;
-    }
-    let mut room = [0; 64];
-    let bytes = &mut room[0..n];
-    if fill(bytes, digits.as_bytes()) {
-        Some(Value::new(bytes))
-    } else {
-        None
-    }
+fn kind_of(word: &str) -> Option<Kind> {
+    Kind::try_from(word.parse::<u8>().ok()?).ok()
 }
 
-fn keyed(kind: u32, numbers: &[u32; 5], key: EntryKey, value: Value) -> Option<Record> {
-    let [page, previous, other, other_previous, child] = *numbers;
-    match kind {
-        2 => Some(Record::Put {
+// No bytes are written `-`.
+fn text_of<const SIZE: usize>(word: &str) -> Option<Text<SIZE>> {
+    let digits = if word == "-" { "" } else { word };
+    let mut room = [0; SIZE];
+    let bytes = room.get_mut(..digits.len() / 2)?;
+    hex::decode_to_slice(digits.as_bytes(), bytes).ok()?;
+    Text::try_from(&*bytes).ok()
+}
+
+fn content(kind: Kind, numbers: [u32; 5], key: Key, value: Value) -> Option<Record> {
+    let [page, previous, other, other_previous, child] = numbers;
+    let key = EntryKey::try_from(key).ok();
+    Some(match kind {
+        Kind::Format => Record::Format,
+        Kind::Put => Record::Put {
             page,
             previous,
-            key,
+            key: key?,
             value,
-        }),
-        3 => Some(Record::Remove {
+        },
+        Kind::Remove => Record::Remove {
             page,
             previous,
-            key,
-        }),
-        4 => Some(Record::Foster {
+            key: key?,
+        },
+        Kind::Foster => Record::Foster {
             page,
             previous,
             other,
-            key,
-        }),
-        5 => Some(Record::Adopt {
+            key: key?,
+        },
+        Kind::Adopt => Record::Adopt {
             page,
             previous,
             other,
             other_previous,
             child,
-            key,
-        }),
-        _ => None,
-    }
-}
-
-fn content(kind: u32, numbers: &[u32; 5], key: &[u8], value: Value) -> Option<Record> {
-    let [_, previous, other, ..] = *numbers;
-    match kind {
-        1 => Some(Record::Format),
-        6 => Some(Record::Grow { previous, other }),
-        _ => keyed(kind, numbers, EntryKey::new(key)?, value),
-    }
+            key: key?,
+        },
+        Kind::Grow => Record::Grow { previous, other },
+    })
 }
 
 // The record that the fields of a line say; None within for `refused`.
@@ -85,14 +71,14 @@ fn expected(fields: &str) -> Option<Option<Record>> {
         return Some(None);
     }
     let mut words = fields.split(' ');
-    let kind = number(words.next()?)?;
+    let kind = kind_of(words.next()?)?;
     let mut numbers = [0; 5];
     for n in numbers.iter_mut() {
         *n = number(words.next()?)?;
     }
-    let key = value_of(words.next()?)?;
-    let value = value_of(words.next()?)?;
-    Some(Some(content(kind, &numbers, key.bytes(), value)?))
+    let key = text_of(words.next()?)?;
+    let value = text_of(words.next()?)?;
+    Some(Some(content(kind, numbers, key, value)?))
 }
 
 fn compared(image: &[u8; 128], position: u32, expected: Option<Record>) -> Outcome {
@@ -104,15 +90,13 @@ fn compared(image: &[u8; 128], position: u32, expected: Option<Record>) -> Outco
     }
 }
 
+fn read(line: &str) -> Option<Outcome> {
+    let (image, rest) = line.split_once(' ')?;
+    let (position, fields) = rest.split_once(' ')?;
+    let image = image_of(image)?;
+    Some(compared(&image, number(position)?, expected(fields)?))
+}
+
 pub(crate) fn judged(line: &str) -> Outcome {
-    let Some((image, rest)) = line.split_once(' ') else {
-        return Outcome::Failed;
-    };
-    let Some((position, fields)) = rest.split_once(' ') else {
-        return Outcome::Failed;
-    };
-    match (image_of(image), number(position), expected(fields)) {
-        (Some(image), Some(position), Some(expected)) => compared(&image, position, expected),
-        _ => Outcome::Failed,
-    }
+    read(line).unwrap_or(Outcome::Failed)
 }

@@ -1,7 +1,6 @@
 // A record that divides a page.
-ghost use Rattle.std.specs.Prelude.{◌≡◌, true};
+ghost use Rattle.std.specs.Prelude.{◌≡◌};
 ghost use Rattle.field.specs.Held.{key_of};
-ghost use Rattle.page.specs.Form.{is_ordered};
 ghost use Rattle.page.specs.Image.{parse_page};
 ghost use Rattle.record.specs.Contents.{foster};
 ghost use Rattle.redo.specs.Redone.{redone_image};
@@ -11,37 +10,34 @@ use crate::suits::holds_key;
 use field::Key;
 use order::KeyOrder;
 use page_edit::{lower_half, upper_half};
-use page_view::PageView;
+use page_view::Ordered;
 
 // The slot that has the key. The first does not divide: no entry would stay.
-fn dividing_slot<O: KeyOrder>(order: &O, image: PageView<'_>, key: &Key) -> Option<usize>
-    requires { is_ordered O.KeyOrder.says (parse_page image.image.now) ≡ true }
-    ensures { DividesIn O.KeyOrder.says (key_of key.now) (parse_page image.entry.image.now) result }
+fn dividing_slot<O: KeyOrder>(image: Ordered<'_, O>, key: &Key) -> Option<usize>
+    ensures { DividesIn O.KeyOrder.says (key_of key.now) (parse_page image.entry.view.image.now) result }
 {
-    match image.find(order, key.bytes()) {
+    match image.find(key.bytes()) {
         Ok(slot) if slot > 0 => Some(slot),
         _ => None,
     }
 }
 
 pub(crate) fn redo_foster<O: KeyOrder>(
-    order: &O,
-    image: PageView<'_>,
+    image: Ordered<'_, O>,
     position: u32,
     page: u32,
     other: u32,
     key: &Key,
 ) -> Option<[u8; 512]>
-    requires { is_ordered O.KeyOrder.says (parse_page image.image.now) ≡ true }
-    ensures { result ≡ redone_image O.KeyOrder.says position (foster 0 0 other (key_of key.now)) page (parse_page image.entry.image.now) }
+    ensures { result ≡ redone_image O.KeyOrder.says position (foster 0 0 other (key_of key.now)) page (parse_page image.entry.view.image.now) }
 {
-    if !holds_key(order, image, key) {
+    if !holds_key(image, key) {
         return None;
     }
-    let slot = dividing_slot(order, image, key)?;
+    let slot = dividing_slot(image, key)?;
     if page == other {
-        Some(upper_half(order, image, position, slot, 0))
+        Some(upper_half(image, position, slot, 0))
     } else {
-        Some(lower_half(order, image, position, slot, other))
+        Some(lower_half(image, position, slot, other))
     }
 }

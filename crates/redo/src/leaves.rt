@@ -1,7 +1,6 @@
 // Records that change an entry of a leaf.
-ghost use Rattle.std.specs.Prelude.{◌≡◌, true};
+ghost use Rattle.std.specs.Prelude.{◌≡◌};
 ghost use Rattle.field.specs.Held.{key_of, value_of};
-ghost use Rattle.page.specs.Form.{is_ordered};
 ghost use Rattle.page.specs.Image.{parse_page};
 ghost use Rattle.record.specs.Contents.{put, remove};
 ghost use Rattle.redo.specs.Redone.{redone_image};
@@ -9,35 +8,31 @@ ghost use Rattle.redo.specs.Redone.{redone_image};
 use crate::suits::holds_key;
 use field::{Key, Value};
 use order::KeyOrder;
-use page_view::PageView;
+use page_view::Ordered;
 
 pub(crate) fn redo_put<O: KeyOrder>(
-    order: &O,
-    image: PageView<'_>,
+    image: Ordered<'_, O>,
     position: u32,
     key: &Key,
     value: &Value,
 ) -> Option<[u8; 512]>
-    requires { is_ordered O.KeyOrder.says (parse_page image.image.now) ≡ true }
-    ensures { result ≡ redone_image O.KeyOrder.says position (put 0 0 (key_of key.now) (value_of value.now)) 0 (parse_page image.entry.image.now) }
+    ensures { result ≡ redone_image O.KeyOrder.says position (put 0 0 (key_of key.now) (value_of value.now)) 0 (parse_page image.entry.view.image.now) }
 {
-    if image.level() != 0 || !holds_key(order, image, key) {
+    if image.view.level() != 0 || !holds_key(image, key) {
         return None;
     }
-    page_edit::put(order, image, position, key, value)
+    page_edit::put(image, position, key, value)
 }
 
 pub(crate) fn redo_remove<O: KeyOrder>(
-    order: &O,
-    image: PageView<'_>,
+    image: Ordered<'_, O>,
     position: u32,
     key: &Key,
 ) -> Option<[u8; 512]>
-    requires { is_ordered O.KeyOrder.says (parse_page image.image.now) ≡ true }
-    ensures { result ≡ redone_image O.KeyOrder.says position (remove 0 0 (key_of key.now)) 0 (parse_page image.entry.image.now) }
+    ensures { result ≡ redone_image O.KeyOrder.says position (remove 0 0 (key_of key.now)) 0 (parse_page image.entry.view.image.now) }
 {
-    if image.level() != 0 {
+    if image.view.level() != 0 {
         return None;
     }
-    page_edit::remove(order, image, position, key)
+    page_edit::remove(image, position, key)
 }

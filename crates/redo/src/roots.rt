@@ -11,10 +11,7 @@ use page_view::PageView;
 fn can_grow(image: PageView<'_>) -> bool
     ensures { result ≡ (some (parse_page image.entry.image.now).foster && nat_lt (parse_page image.entry.image.now).level 255) }
 {
-    match image.foster() {
-        None => false,
-        Some(_) => image.level() < 255,
-    }
+    image.foster().is_some() && image.level() < 255
 }
 
 pub(crate) fn redo_grow(

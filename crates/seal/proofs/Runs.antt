@@ -1,8 +1,10 @@
 -- Laws of whole runs: by parts, eight bytes at a time, and in streams joined by linearity.
-use Rattle.std.proofs.Common.{◌≡◌, ℕ, suc, ◌+◌, ◌*◌, ◌<◌, ◌≤◌, List, [], ◌∷◌, ◌++◌, length, get_or, take, drop, sym, refl, ap, ◌∙◌, ap₂, add-one, arith, take-append-drop, drop-cons}
+use Rattle.std.proofs.Common.{◌≡◌, ℕ, zero, suc, ◌+◌, ◌*◌, ◌<◌, ◌≤◌, List, [], ◌∷◌, ◌++◌, length, get_or, take, drop, sym, refl, ap, ◌∙◌, ap₂, arith, take-append-drop}
 use lib.Bits.{bit_xor, xor_assoc, xor_comm, xor_zero_r, xor_shifted}
 use Rattle.std.proofs.lemmas.List.FromFn.{fill_by_all}
-use Rattle.std.proofs.lemmas.List.{drop_all}
+use Rattle.std.proofs.lemmas.List.{drop_all, drop-drop}
+use Rattle.std.specs.List.{fold, zip}
+use Rattle.std.specs.Simd.{first_chunks}
 use Rattle.seal.specs.Crc.{steps, byte_step, run}
 use Rattle.seal.proofs.Steps.{steps_linear, steps-add, steps_shifted}
 
@@ -15,14 +17,41 @@ run-append c (x ∷ xs) ys = run-append (byte_step c x) xs ys
 pub run-parts : (c n : ℕ) (bs : List ℕ) → run (run c (take n bs)) (drop n bs) ≡ run c bs
 run-parts c n bs = sym (run-append c (take n bs) (drop n bs)) ∙ ap (run c) (take-append-drop n bs)
 
--- a loop's turn: what is left to run, one byte on
-pub run_more : (c : ℕ) (bs : List ℕ) (i : ℕ) → i < length bs → run (byte_step c (get_or bs i 0)) (drop (i + 1) bs) ≡ run c (drop i bs)
+-- a run is a fold of bytes
+pub run_fold : (c : ℕ) (bs : List ℕ) → fold byte_step c bs ≡ run c bs
 unfolding run
-run_more c bs i h = sym (rw (add-one, drop-cons bs i 0))
+run_fold c [] = refl
+run_fold c (x ∷ xs) = run_fold (byte_step c x) xs
 
-pub run-all : (c : ℕ) (bs : List ℕ) (i : ℕ) → i ≡ length bs → run c (drop i bs) ≡ c
+-- and one of its first k parts of n bytes, with the run of what is left
+pub run_chunks : (n k c : ℕ) (bs : List ℕ) → run (fold run c (first_chunks n k bs)) (drop (k * n) bs) ≡ run c bs
+run_chunks n zero c bs = let e : 0 * n ≡ 0 = omega arith in ap (λ (m : ℕ). run c (drop m bs)) e
+run_chunks n (suc k) c bs =
+    let more = run_chunks n k (run c (take n bs)) (drop n bs) in
+    let e : suc k * n ≡ n + k * n = omega arith in
+    let d : drop (suc k * n) bs ≡ drop (k * n) (drop n bs) = ap (λ (m : ℕ). drop m bs) e ∙ sym (drop-drop (k * n) n bs) in
+    ap (run (fold run (run c (take n bs)) (first_chunks n k (drop n bs)))) d ∙ more ∙ run-parts c n bs
+
+-- a whole number of parts leaves nothing
+pub run_whole : (n k c : ℕ) (bs : List ℕ) → length bs ≡ k * n → fold run c (first_chunks n k bs) ≡ run c bs
 unfolding run
-run-all c bs i e = let h : length bs ≤ i = omega arith in rw drop_all
+run_whole n k c bs e =
+    let none : drop (k * n) bs ≡ [] = let h : length bs ≤ k * n = omega arith in rw drop_all in
+    sym (ap (run (fold run c (first_chunks n k bs))) none) ∙ run_chunks n k c bs
+
+-- a part of each of three streams
+abbrev pub step_three : ℕ × ℕ × ℕ → (List ℕ × List ℕ) × List ℕ → ℕ × ℕ × ℕ
+step_three r p = (run r.0 p.0.0, run r.1 p.0.1, run r.2 p.1)
+
+-- streams side by side are three runs
+pub run_three : (c d e : ℕ) (xs ys zs : List (List ℕ)) → length ys ≡ length xs → length zs ≡ length xs
+    → fold step_three (c, d, e) (zip (zip xs ys) zs) ≡ (fold run c xs, fold run d ys, fold run e zs)
+run_three c d e [] [] [] h k = refl
+run_three c d e [] (y ∷ ys) zs h k = absurd (omega arith)
+run_three c d e [] [] (z ∷ zs) h k = absurd (omega arith)
+run_three c d e (x ∷ xs) [] zs h k = absurd (omega arith)
+run_three c d e (x ∷ xs) (y ∷ ys) [] h k = absurd (omega arith)
+run_three c d e (x ∷ xs) (y ∷ ys) (z ∷ zs) h k = run_three (run c x) (run d y) (run e z) xs ys zs (omega arith) (omega arith)
 
 -- one byte, and a word above it that waits
 next : (m c b w : ℕ) → b < 256 → steps m (bit_xor (byte_step c b) w) ≡ steps (8 + m) (bit_xor c (w * 256 + b))

@@ -1,5 +1,5 @@
 // CRC32C eight bytes at a time, and of long inputs in three streams side by side.
-ghost use Rattle.std.specs.Prelude.{◌≡◌, ◌+◌, ◌<◌};
+ghost use Rattle.std.specs.Prelude.{◌≡◌, ◌+◌, ◌<◌, length};
 ghost use Rattle.seal.specs.Crc.{byte_step, crc, run, steps};
 ghost use Rattle.seal.specs.Tables.{by_tables, distance};
 
@@ -47,57 +47,39 @@ fn step8(c: u32, b: &[u8; 8]) -> u32
 fn tail(from: u32, bytes: &[u8]) -> u32
     ensures { result ≡ run from bytes.now }
 {
-    let mut c = from;
-    for b in bytes {
-        c = step(c, *b);
-    }
-    c
+    bytes.iter().fold(from, |c, b| step(c, *b))
 }
 
 // One stream.
 fn stream(from: u32, bytes: &[u8]) -> u32
     ensures { result ≡ run from bytes.now }
 {
-    let mut c = from;
-    let mut rest = bytes;
-    while let Some((head, after)) = rest.split_first_chunk::<8>() {
-        c = step8(c, head);
-        rest = after;
-    }
-    tail(c, rest)
+    let (eights, rest) = bytes.as_chunks::<8>();
+    tail(eights.iter().fold(from, step8), rest)
 }
 
-// Three streams side by side, which the processor works on at once; the second and the third begin at 0.
+// Three streams of 168 bytes side by side, which the processor works on at once; the second and the third begin at 0.
 fn three(from: u32, first: &[u8], second: &[u8], third: &[u8]) -> (u32, u32, u32)
+    requires first { length first.now ≡ 168 }
+    requires second { length second.now ≡ 168 }
+    requires third { length third.now ≡ 168 }
     ensures first { result.0 ≡ run from first.now }
     ensures second { result.1 ≡ run 0 second.now }
     ensures third { result.2 ≡ run 0 third.now }
 {
-    let mut c = from;
-    let mut d = 0;
-    let mut e = 0;
-    let mut x = first;
-    let mut y = second;
-    let mut z = third;
-    while let Some((p, xs)) = x.split_first_chunk::<8>() {
-        let Some((q, ys)) = y.split_first_chunk::<8>() else {
-            break;
-        };
-        let Some((s, zs)) = z.split_first_chunk::<8>() else {
-            break;
-        };
-        c = step8(c, p);
-        d = step8(d, q);
-        e = step8(e, s);
-        x = xs;
-        y = ys;
-        z = zs;
-    }
-    (stream(c, x), stream(d, y), stream(e, z))
+    let (x, _) = first.as_chunks::<8>();
+    let (y, _) = second.as_chunks::<8>();
+    let (z, _) = third.as_chunks::<8>();
+    x.iter()
+        .zip(y)
+        .zip(z)
+        .fold((from, 0, 0), |(c, d, e), ((p, q), s)| {
+            (step8(c, p), step8(d, q), step8(e, s))
+        })
 }
 
-// A chunk of three streams of 168 bytes, joined by linearity: what the first became is carried over the second, and
-// what both became over the third.
+// A chunk of three streams, joined by linearity: what the first became is carried over the second, and what both
+// became over the third.
 fn chunk(from: u32, bytes: &[u8; 504]) -> u32
     ensures { result ≡ run from bytes.now }
 {
@@ -111,24 +93,12 @@ fn chunk(from: u32, bytes: &[u8; 504]) -> u32
 fn register(from: u32, bytes: &[u8]) -> u32
     ensures { result ≡ run from bytes.now }
 {
-    let mut c = from;
-    let mut rest = bytes;
-    while let Some((head, after)) = rest.split_first_chunk::<504>() {
-        c = chunk(c, head);
-        rest = after;
-    }
-    stream(c, rest)
+    let (chunks, rest) = bytes.as_chunks::<504>();
+    stream(chunks.iter().fold(from, chunk), rest)
 }
 
 pub fn crc32c(bytes: &[u8]) -> u32
     ensures { result ≡ crc bytes.now }
 {
     register(ONES, bytes) ^ ONES
-}
-
-// The same under the name that C callers know: the crate `seal_c` exports it.
-pub fn seal_crc32c(bytes: &[u8]) -> u32
-    ensures { result ≡ crc bytes.now }
-{
-    crc32c(bytes)
 }

@@ -9,5 +9,5 @@ ghost use Rattle.seal.specs.Crc.{crc};
 pub extern "C" fn seal_crc32c(bytes: &[u8]) -> u32
     ensures { result ≡ crc bytes.now }
 {
-    seal::seal_crc32c(bytes)
+    seal::crc32c(bytes)
 }

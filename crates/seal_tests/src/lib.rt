@@ -3,7 +3,7 @@
 
 #[cfg(test)]
 mod tests {
-    use seal::{SealError, check_value, crc32c, is_sealed, seal_128, seal_512, seal_block};
+    use seal::{SealError, check_value, crc32c, is_sealed, seal_array, seal_block};
 
     // The definition as it is written down: a bit at a time, with no table.
     fn bit_by_bit(bytes: &[u8]) -> u32 {
@@ -78,6 +78,7 @@ mod tests {
 
     // Whether a block passes with any one bit changed.
     fn passes_with_a_bit_changed(block: &mut [u8]) -> bool {
+        // by index: the whole block is read between the two changes of a byte
         for i in 0..block.len() {
             for bit in 0..8u32 {
                 block[i] ^= 1 << bit;
@@ -94,12 +95,12 @@ mod tests {
     fn every_flipped_bit_of_a_sealed_block_is_refused(rt: HostRuntime) {
         let mut record = [0u8; 128];
         noise(&mut record);
-        seal_128(&mut record);
+        seal_array(&mut record);
         assert!(rt; is_sealed(&record));
         assert!(rt; !passes_with_a_bit_changed(&mut record));
         let mut page = [0u8; 512];
         noise(&mut page);
-        seal_512(&mut page);
+        seal_array(&mut page);
         assert!(rt; is_sealed(&page));
         assert!(rt; !passes_with_a_bit_changed(&mut page));
     }

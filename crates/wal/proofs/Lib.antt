@@ -1,4 +1,3 @@
-pub mod Outcomes
 pub mod Stamps
 pub mod Rows
 pub mod Memories

@@ -1,12 +1,13 @@
 -- The row of slots of a log, and what one record more leaves.
-use Rattle.std.proofs.Common.{◌≡◌, ℕ, zero, suc, ◌+◌, ◌-◌, ◌<◌, ◌≤◌, min, Bool, true, false, ◌≢◌, List, [], ◌∷◌, ◌++◌, length, get_or, take, set, sym, refl, ap, ◌∙◌, ⊎_elim, arith, length-take}
+use Rattle.std.proofs.Common.{◌≡◌, ℕ, zero, suc, ◌+◌, ◌-◌, ◌<◌, ◌≤◌, min, Bool, true, false, ◌≢◌, List, [], ◌∷◌, ◌++◌, Result, Ok, Err, length, get_or, take, set, sym, refl, ap, ◌∙◌, ⊎_elim, arith, length-take}
 use Rattle.std.proofs.lemmas.List.{get_or_past, get_or-take, get_or-set_same, get_or-set_other, take_more_set, length-take-le}
-use Rattle.std.proofs.lemmas.Bool.{cases_eq, lt-leb, le-leb, cond-false}
+use Rattle.std.proofs.lemmas.Bool.{cases_eq, cases_lt, lt-leb, le-leb, cond-false}
 use Rattle.device.specs.Disk.{Page, holds, unreadable}
 use Rattle.wal.specs.Journal.{Journal, Entry, entry, lost}
 use Rattle.wal.specs.Records.{stamped, passes}
 use Rattle.wal.specs.Appends.{Fate, lasts, full, longer, row_after, power_after, appended, answer, Appended}
-use Rattle.wal.specs.declared.AppendAnswer.TheVariants as append
+use Rattle.wal.specs.declared.errors.AppendError.{AppendError}
+use Rattle.wal.specs.declared.errors.AppendError.TheVariants.{Full}
 use Rattle.wal.specs.Laws.{NewIsEmpty}
 use Rattle.wal.specs.Slots.{slot, slots, LastPassing}
 
@@ -37,12 +38,6 @@ pub entry-within : (es : List Entry) (n u : ℕ) → (n ≡ 0 → ⊥) → n ≤
 entry-within es zero u z h = absurd (z refl)
 entry-within es (suc m) u z h = let e : m ≡ suc m - 1 = omega arith in get_or-take u es m lost h ∙ ap (λ (i : ℕ). get_or es i lost) e
 
-pub entry_zero : (es : List Entry) (n : ℕ) → n ≡ 0 → get_or (lost ∷ es) n lost ≡ lost
-entry_zero es n e = rw e
-
-pub entry_past : (es : List Entry) (n : ℕ) → length es < n → get_or (lost ∷ es) n lost ≡ lost
-entry_past es n h = get_or_past (lost ∷ es) n lost h
-
 -- a stamped record is what its slot holds, if the block passes and begins with it
 pub slot-stands : (n : ℕ) (bs block : List ℕ) → passes n block ≡ true → take 128 block ≡ stamped n bs → slot n (holds block) ≡ entry (stamped n bs)
 slot-stands n bs block p e = rw p (ap entry e)
@@ -68,6 +63,11 @@ module _ (es : List Entry) (u : ℕ) (bs : List ℕ) where
             get_or-set_other es u i (entry r) lost other ∙ none i (omega arith);
       }
 
+pub last-fits : (es : List Entry) (n : ℕ) → LastPassing es n → n ≤ length es
+last-fits es zero last = omega arith
+last-fits es (suc i) last =
+    ⊎_elim (λ (h : i < length es). h) (λ (h : length es ≤ i). absurd (last.stands i refl (get_or_past es i lost h))) (cases_lt i (length es))
+
 pub new_is_empty : NewIsEmpty
 new_is_empty es zero last none = refl
 new_is_empty es (suc i) last none = absurd (last.stands i refl (none i))
@@ -77,19 +77,14 @@ pub beyond-down : (es : List Entry) (n : ℕ) → 0 < n → get_or es (n - 1) lo
 beyond-down es n h gone none i l =
     ⊎_elim (λ (e : i ≡ n - 1). ap (λ (j : ℕ). get_or es j lost) e ∙ gone) (λ (e : i ≡ n - 1 → ⊥). none i (omega arith)) (cases_eq i (n - 1))
 
-pub last-at : (es : List Entry) (n : ℕ) (bs : List ℕ) → get_or es (n - 1) lost ≡ entry bs → ((i : ℕ) → n ≤ i → get_or es i lost ≡ lost) → LastPassing es n
-last-at es n bs found none =
+pub last-at : (es : List Entry) (n : ℕ) → (get_or es (n - 1) lost ≡ lost → ⊥) → ((i : ℕ) → n ≤ i → get_or es i lost ≡ lost) → LastPassing es n
+last-at es n held none =
     record {
       stands = λ i e gone.
           let same : n - 1 ≡ i = omega arith in
-          let clash : entry bs ≡ lost = sym found ∙ ap (λ (j : ℕ). get_or es j lost) same ∙ gone in
-          let z : ◌≡◌ {A = ℕ} 0 1 = cc in
-          omega arith;
+          held (ap (λ (j : ℕ). get_or es j lost) same ∙ gone);
       beyond = none;
     }
-
-pub last_none : (es : List Entry) (n : ℕ) → n ≡ 0 → ((i : ℕ) → n ≤ i → get_or es i lost ≡ lost) → LastPassing es n
-last_none es n e none = record { stands = λ i s gone. omega arith; beyond = none }
 
 -- a log that is on, with u of the slots es in its row
 abbrev pub going : ℕ → List Entry → ℕ → Bool → Journal
@@ -102,7 +97,7 @@ module _ (cap : ℕ) (es : List Entry) (u : ℕ) (bs : List ℕ) (size : length 
   pub not_full : (x : Bool) → u < cap → full (going cap es u x) ≡ false
   not_full x h = lt-leb cap (length (take u es)) (omega (arith, row-length))
 
-  pub full-append : cap ≤ u → Appended (going cap es u true) bs append.Full (going cap es u true)
+  pub full-append : cap ≤ u → Appended (going cap es u true) bs (Err Full) (going cap es u true)
   full-append h =
       let is_full : full (going cap es u true) ≡ true = le-leb cap (length (take u es)) (omega (arith, row-length)) in
       record { fate = lasts; leaves = rw is_full; answers = rw is_full }
@@ -111,7 +106,10 @@ module _ (cap : ℕ) (es : List Entry) (u : ℕ) (bs : List ℕ) (size : length 
   pub grows : (f : Fate) → u < cap → appended f (going cap es u true) bs ≡ record { capacity = cap; records = row_after f (take u es) bs; on = power_after f }
   grows f h = rw (not_full true h)
 
-  pub answers-added : u < cap → append.Added (u + 1) ≡ answer (going cap es u true) true
+  abbrev answered : ℕ → Result ℕ AppendError
+  answered n = Ok n
+
+  pub answers-added : u < cap → Ok (u + 1) ≡ answer (going cap es u true) true
   answers-added h =
       let long : u ≡ length (take u es) = omega (arith, row-length) in
-      ap (λ (n : ℕ). append.Added (n + 1)) long ∙ sym (cond-false _ _ _ (not_full true h))
+      ap (λ (n : ℕ). answered (n + 1)) long ∙ sym (cond-false _ _ _ (not_full true h))

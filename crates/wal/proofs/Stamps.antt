@@ -1,8 +1,8 @@
 -- A stamped record passes at its position.
-use Rattle.std.proofs.Common.{◌≡◌, ℕ, zero, suc, ◌+◌, ◌^◌, ◌<◌, Bool, true, false, ◌&&◌, eqb, List, [], ◌∷◌, ◌++◌, length, take, drop, replicate, sym, ap, ◌∙◌, ap₂, arith, length-append, length-drop, length-take}
+use Rattle.std.proofs.Common.{◌≡◌, ℕ, zero, suc, ◌+◌, ◌^◌, ◌<◌, true, List, [], ◌∷◌, ◌++◌, length, take, drop, replicate, sym, ap, ◌∙◌, ap₂, arith, length-append, length-drop, length-take}
 use Rattle.std.proofs.lemmas.List.{take-append-drop, get_or-drop}
-use Rattle.std.proofs.lemmas.Bool.{and_from, and_left, eq-eqb}
-use Rattle.seal.specs.Seal.{is_sealed, le4, sealed}
+use Rattle.std.proofs.lemmas.Bool.{and_from, eq-eqb}
+use Rattle.seal.specs.Seal.{le4, sealed}
 use Rattle.seal.specs.Crc.{crc}
 use Rattle.seal.specs.Laws.{Bytes}
 use Rattle.seal.proofs.Seals.{number_back, sealed_passes}
@@ -66,11 +66,3 @@ stamp_is n bs out part e front back =
     let f : take 4 out ≡ le4 n = rw e at front in
     let b : drop 4 out ≡ drop 4 bs = rw e at back in
     ap (λ (l : List ℕ). sealed (take 124 l)) (sym (take-append-drop 4 out) ∙ ap₂ (λ (x y : List ℕ). x ++ y) f b)
-
-pub passes-by-place : (n p : ℕ) (bs : List ℕ) → true ≡ is_sealed bs → p ≡ word bs 0 → eqb p n ≡ passes n bs
-unfolding passes
-passes-by-place n p bs s e = ap (λ (k : ℕ). eqb k n) e ∙ ap (λ (t : Bool). t && eqb (word bs 0) n) s
-
-pub fails_by_seal : (n : ℕ) (bs : List ℕ) → false ≡ is_sealed bs → false ≡ passes n bs
-unfolding passes
-fails_by_seal n bs s = sym (and_left _ _ (sym s))

@@ -1,9 +1,9 @@
 -- What may become of an append.
-use Rattle.std.specs.Prelude.{◌≡◌, ℕ, ◌+◌, Bool, true, false, cond, List, [], ◌∷◌, ◌++◌, length, nat_le}
+use Rattle.std.specs.Prelude.{◌≡◌, ℕ, ◌+◌, Bool, true, false, cond, List, [], ◌∷◌, ◌++◌, length, nat_le, Result, Ok, Err}
 use Rattle.wal.specs.Journal.{Journal, Entry, entry}
 use Rattle.wal.specs.Records.{stamped}
-use Rattle.wal.specs.declared.AppendAnswer.{AppendAnswer}
-use Rattle.wal.specs.declared.AppendAnswer.TheVariants as append
+use Rattle.wal.specs.declared.errors.AppendError.{AppendError}
+use Rattle.wal.specs.declared.errors.AppendError.TheVariants.{Full, Off}
 
 -- power lasts through the append, or goes off in it with the record added or not
 pub data Fate : Type 0 where
@@ -33,11 +33,11 @@ abbrev pub appended : Fate → Journal → List ℕ → Journal
 appended f j bs = cond j.on (cond (full j) j (record { capacity = j.capacity; records = row_after f j.records bs; on = power_after f })) j
 
 -- what an append answers, by the power that is left
-abbrev pub answer : Journal → Bool → AppendAnswer
-answer j power = cond power (cond (full j) append.Full (append.Added (length j.records + 1))) append.Off
+abbrev pub answer : Journal → Bool → Result ℕ AppendError
+answer j power = cond power (cond (full j) (Err Full) (Ok (length j.records + 1))) (Err Off)
 
 -- an append of bs took j to k and answered r
-pub record Appended (j : Journal) (bs : List ℕ) (r : AppendAnswer) (k : Journal) : Type 0 where
+pub record Appended (j : Journal) (bs : List ℕ) (r : Result ℕ AppendError) (k : Journal) : Type 0 where
   pub fate : Fate
   pub leaves : k ≡ appended fate j bs
   pub answers : r ≡ answer j k.on

@@ -1,10 +1,10 @@
 -- What the answer of an append tells of it, whatever the log, and what a new log is.
-use Rattle.std.specs.Prelude.{◌≡◌, ℕ, true, false, List, length}
+use Rattle.std.specs.Prelude.{◌≡◌, ℕ, true, false, List, length, Result, Ok, Err}
 use Rattle.wal.specs.Journal.{Journal, Entry}
 use Rattle.wal.specs.Appends.{Appended, appended, full, lasts}
 use Rattle.wal.specs.Slots.{LastPassing, NewLog}
-use Rattle.wal.specs.declared.AppendAnswer.TheVariants.{Added, Full, Off}
-use Rattle.wal.specs.declared.AppendAnswer.{AppendAnswer}
+use Rattle.wal.specs.declared.errors.AppendError.{AppendError}
+use Rattle.wal.specs.declared.errors.AppendError.TheVariants.{Full, Off}
 
 -- j took the record bs at position n and is k now
 pub record Placed (j : Journal) (bs : List ℕ) (n : ℕ) (k : Journal) : Type 0 where
@@ -15,16 +15,16 @@ pub record Placed (j : Journal) (bs : List ℕ) (n : ℕ) (k : Journal) : Type 0
 
 -- an append that answered a position was on and not full, and that position is the new length
 abbrev pub AddedIsPlaced : Type 0
-AddedIsPlaced = (j k : Journal) (bs : List ℕ) (n : ℕ) → Appended j bs (Added n) k → Placed j bs n k
+AddedIsPlaced = (j k : Journal) (bs : List ℕ) (n : ℕ) → Appended j bs (Ok n) k → Placed j bs n k
 
 abbrev pub FullChangesNothing : Type 0
-FullChangesNothing = (j k : Journal) (bs : List ℕ) → Appended j bs Full k → (full j ≡ true) × (k ≡ j)
+FullChangesNothing = (j k : Journal) (bs : List ℕ) → Appended j bs (Err Full) k → (full j ≡ true) × (k ≡ j)
 
 abbrev pub OffMeansOff : Type 0
-OffMeansOff = (j k : Journal) (bs : List ℕ) → Appended j bs Off k → k.on ≡ false
+OffMeansOff = (j k : Journal) (bs : List ℕ) → Appended j bs (Err Off) k → k.on ≡ false
 
 abbrev pub CapacityStays : Type 0
-CapacityStays = (j k : Journal) (bs : List ℕ) (r : AppendAnswer) → Appended j bs r k → k.capacity ≡ j.capacity
+CapacityStays = (j k : Journal) (bs : List ℕ) (r : Result ℕ AppendError) → Appended j bs r k → k.capacity ≡ j.capacity
 
 -- a log is new exactly if its last passing position is 0
 abbrev pub NewIsEmpty : Type 0

@@ -1,7 +1,7 @@
 -- A log's row in slots: blocks that pass or are lost.
 use Rattle.std.specs.Prelude.{◌≡◌, ℕ, suc, ◌-◌, ◌*◌, ◌/◌, ◌≤◌, min, true, cond, List, [], ◌∷◌, ◌++◌, map, length, take, drop, ◌≢◌, slice_index_or}
 use Rattle.device.specs.Disk.{Page, holds, unreadable}
-use Rattle.device.specs.Parts.{parts}
+use Rattle.std.specs.Simd.{first_chunks}
 use Rattle.wal.specs.Journal.{Journal, Entry, entry, lost}
 use Rattle.wal.specs.Records.{passes}
 
@@ -33,7 +33,7 @@ abbrev pub memory_room : List ℕ → ℕ
 memory_room bs = room (length bs / 128)
 
 abbrev pub memory_slots : List ℕ → List Entry
-memory_slots bs = slots 1 (map holds (parts 128 (memory_room bs) bs))
+memory_slots bs = slots 1 (map holds (first_chunks 128 (memory_room bs) bs))
 
 -- memory with a record in the slot of position n, and all else as it was
 abbrev pub with_slot : ℕ → List ℕ → List ℕ → List ℕ

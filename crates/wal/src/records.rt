@@ -3,11 +3,18 @@ ghost use Rattle.std.specs.Prelude.{◌≡◌, ◌≤◌, length};
 ghost use Rattle.device.specs.Disk.{holds};
 ghost use Rattle.wal.specs.Journal.{shown};
 ghost use Rattle.wal.specs.Records.{passes, stamped};
-ghost use Rattle.wal.specs.Slots.{slot};
+ghost use Rattle.wal.specs.Slots.{room, slot};
 
-use crate::RecordAnswer;
+use crate::RecordError;
 use field::{put, word_at};
-use seal::{is_sealed, seal_128};
+use seal::{is_sealed, seal_array};
+
+// How many positions so many blocks have: a position has 32 bits.
+pub fn room(blocks: usize) -> u32
+    ensures { result ≡ room blocks }
+{
+    u32::try_from(blocks).unwrap_or(u32::MAX)
+}
 
 // The record with its position and seal set.
 pub fn stamp(position: u32, bytes: &[u8; 128]) -> [u8; 128]
@@ -15,11 +22,12 @@ pub fn stamp(position: u32, bytes: &[u8; 128]) -> [u8; 128]
 {
     let mut record = *bytes;
     put(&mut record, 0, &position.to_le_bytes());
-    seal_128(&mut record);
+    seal_array(&mut record);
     record
 }
 
 // Whether a block is sealed and carries its own position.
+#[tactic(auto, unfolding(crate::specs::Records::passes))]
 pub fn passes(position: u32, block: &[u8]) -> bool
     requires { 4 ≤ length block.now }
     ensures { result ≡ passes position block.now }
@@ -28,14 +36,12 @@ pub fn passes(position: u32, block: &[u8]) -> bool
 }
 
 // The record at the front of a block, if the block passes.
-pub fn record_in(block: &[u8], position: u32) -> RecordAnswer
+pub fn record_in(block: &[u8], position: u32) -> Result<[u8; 128], RecordError>
     requires { 128 ≤ length block.now }
     ensures { result ≡ shown (slot position (holds block.now)) }
 {
-    if !passes(position, block) {
-        return RecordAnswer::Lost;
+    match block.first_chunk() {
+        Some(record) if passes(position, block) => Ok(*record),
+        _ => Err(RecordError::Lost),
     }
-    let mut found = [0; 128];
-    found.copy_from_slice(&block[0..128]);
-    RecordAnswer::Record(found)
 }

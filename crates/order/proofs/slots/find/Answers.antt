@@ -12,6 +12,6 @@ found same keys key at i o up short h e told is =
 
 pub returns-in-Equal : goal.returns-in-Equal
 returns-in-Equal g c =
-    found g.met.O.KeyOrder.same (g.R.KeyRow.keys c.args.row.now) c.args.key.now c.key.result.now
+    found g.met.O.KeyOrder.lawful.same (g.R.KeyRow.keys c.args.row.now) c.args.key.now c.key.result.now
     (c.loop-low.low + (c.loop-low.high - c.loop-low.low) / 2) c.compare.result c.requires.ascending c.requires.short
     (omega arith) c.key.ensures c.compare.ensures c.in-Equal.is

@@ -1,4 +1,4 @@
-use Rattle.std.proofs.Common.{Bool, ◌&&◌, sym, ap, ◌∙◌, ap₂}
+use Rattle.std.proofs.Common.{ℕ, Bool, ◌&&◌, List, sym, ap, ◌∙◌, ap₂}
 use Rattle.seal.specs.Seal.{is_sealed}
 use Rattle.page.specs.Form.{are_fences}
 use Rattle.page.specs.Image.{parse_page}
@@ -16,7 +16,9 @@ returns-then-not-is_header g c =
 pub returns : goal.returns
 unfolding passes
 returns g c =
-    ap₂ {C = Bool} (λ (x y : Bool). x && y) c.are_fences.ensures (ap₂ {C = Bool} (λ (x y : Bool). x && y) c.walks_all.ensures c.is_sealed.ensures)
+    let same = c.of-page.ensures in
+    ap₂ {C = Bool} (λ (x y : Bool). x && y) (c.are_fences.ensures ∙ ap (λ (b : List ℕ). are_fences g.O.KeyOrder.says (parse_page b)) same)
+    (ap₂ {C = Bool} (λ (x y : Bool). x && y) (c.walks_all.ensures ∙ ap (walks_all g.O.KeyOrder.says) same) c.is_sealed.ensures)
     ∙ ap (λ (x : Bool). x && (are_fences g.O.KeyOrder.says (parse_page c.args.b.now) && (walks_all g.O.KeyOrder.says c.args.b.now && is_sealed c.args.b.now)))
     (sym c.if-not-is_header.false ∙ c.is_header.ensures)
     ∙ exact g.O.KeyOrder.says c.args.b.now c.fits-b c.told-b

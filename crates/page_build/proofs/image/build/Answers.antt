@@ -19,8 +19,8 @@ returns g c =
     let es : List Entry = g.R.EntryRow.entries c.args.row.now in
     let size : length c.head-top.result ≡ 72 = search rules in
     let after = c.fill-start.ensures.after in
-    built c.args.h.now es c.count.result c.fill-start.result c.head-top.result c.put.new.out c.seal_512.new.block size c.requires
+    built c.args.h.now es c.count.result c.fill-start.result c.head-top.result c.put.new.out c.seal_array.new.block size c.requires
     c.count.ensures c.fill-start.ensures.start c.head-top.ensures
     (subst (λ (x : List ℕ). take (0 + length c.head-top.result) c.put.new.out ≡ take 0 x ++ c.head-top.result) after c.put.ensures.written)
     (subst (λ (x : List ℕ). drop (0 + length c.head-top.result) c.put.new.out ≡ drop (0 + length c.head-top.result) x) after c.put.ensures.rest)
-    c.seal_512.ensures
+    c.seal_array.ensures

@@ -1,14 +1,14 @@
-use Rattle.std.proofs.Common.{ℕ, ◌≤◌, List, length, sym, subst}
-use Rattle.page.specs.Content.{entry_at}
+use Rattle.std.proofs.Common.{ℕ, ◌≤◌, List, length, sym, ap, ◌∙◌, subst, arith}
+use Rattle.page.specs.Content.{entry_at, entry_key}
 use Rattle.page.specs.Image.{parse_page}
-use Rattle.page.proofs.Parsed.{form_of}
-use Rattle.page.proofs.Rises.{ascending}
+use Rattle.page_edit.proofs.Keeping.{keys_ascend}
 use Rattle.page_edit.proofs.Dividing.{slot-short}
 use Rattle.page_edit.proofs.halves.slot_key.Goals as goal
 
 pub new-requires : goal.new-requires
 unfolding entry_at
 new-requires g c =
-    let b = c.args.page.image.now in
-    subst (λ (k : List ℕ). length k ≤ 16) (sym c.key.ensures)
-    (slot-short g.met.O.KeyOrder.itself (parse_page b).entries (ascending g.met.O.KeyOrder.chain (parse_page b) (form_of b c.args.page.laid) c.requires.ordered) c.args.slot c.requires.within)
+    let b = c.args.page.view.image.now in
+    let h = subst (λ (k : List ℕ). length k ≤ 16) (sym (c.key.ensures ∙ ap entry_key c.entry.ensures.entry))
+    (slot-short g.met.O.KeyOrder.lawful.itself (parse_page b).entries (keys_ascend g.met.O.KeyOrder.lawful.chain b c.args.page.view.laid c.args.page.ordered) c.args.slot c.requires) in
+    (omega arith, omega (arith, h))

@@ -4,4 +4,4 @@ use Rattle.page_edit.proofs.place.adopt.Goals as goal
 
 pub place-requires : goal.place-requires
 unfolding entry_key
-place-requires g c = record { ordered = c.requires; same = ap entry_key c.of_branch.ensures }
+place-requires g c = ap entry_key c.of_branch.ensures

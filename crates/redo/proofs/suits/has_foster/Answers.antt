@@ -1,23 +1,23 @@
-use Rattle.std.proofs.Common.{Bool, ◌&&◌, eqb, sym, ap, ◌∙◌, rules}
+use Rattle.std.proofs.Common.{◌≡◌, ℕ, false, ◌&&◌, eqb, List, Some, None, Option, refl, ap, ◌∙◌, rules}
+use Rattle.std.specs.Option.{option_map_or}
+use Rattle.std.specs.Ordering.{is_eq}
 use Rattle.field.specs.Held.{key_of}
-use Rattle.page.specs.Image.{parse_page}
+use Rattle.order.specs.Lawful.{Says}
+use Rattle.page.specs.Content.{Foster}
+use Rattle.page_view.specs.Lent.{foster_lent}
+use Rattle.page_view.specs.declared.view.FosterView.{FosterView}
 use Rattle.edits.specs.Suits.{fosters}
-use Rattle.redo.proofs.Fostering.{fosters-at}
 use Rattle.redo.proofs.suits.has_foster.Goals as goal
 
-pub returns-in-None : goal.returns-in-None
+told : (says : Says) (key : List ℕ) (child : ℕ) (f : Option FosterView)
+    → option_map_or (λ f. is_eq (says key f.key.now) && eqb child f.child) f false ≡ fosters says key child (foster_lent f)
 unfolding fosters
-returns-in-None g c = search rules
+told says key child None = refl
+told says key child (Some f) = refl
 
-pub returns-then-eq : goal.returns-then-eq
-returns-then-eq g c =
-    sym (fosters-at g.O.KeyOrder.says (key_of c.args.key.now) c.bytes.result.now c.in-Some.f.key.now c.args.child c.in-Some.f.child
-    (parse_page c.args.image.image.now).foster c.compare.result c.eq.result c.in-Some.ensures c.bytes.ensures c.compare.ensures c.eq.ensures
-    ∙ ap (λ (t : Bool). t && eqb c.args.child c.in-Some.f.child) c.if-eq.true)
-
-pub returns-else-eq : goal.returns-else-eq
-returns-else-eq g c =
-    c.if-eq.false
-    ∙ sym (fosters-at g.O.KeyOrder.says (key_of c.args.key.now) c.bytes.result.now c.in-Some.f.key.now c.args.child c.in-Some.f.child
-    (parse_page c.args.image.image.now).foster c.compare.result c.eq.result c.in-Some.ensures c.bytes.ensures c.compare.ensures c.eq.ensures
-    ∙ ap (λ (t : Bool). t && eqb c.args.child c.in-Some.f.child) c.if-eq.false)
+pub returns : goal.returns
+returns g c =
+    let says : Says = g.O.KeyOrder.says in
+    let key : List ℕ = key_of c.args.key.now in
+    let is : c.is_some_and.result ≡ option_map_or (λ (f : FosterView). is_eq (says key f.key.now) && eqb c.args.child f.child) c.foster.result false = search rules in
+    is ∙ told says key c.args.child c.foster.result ∙ ap (λ (f : Option Foster). fosters says key c.args.child f) c.foster.ensures

@@ -1,9 +1,12 @@
-use Rattle.seal.proofs.Runs.{run-parts}
+use Rattle.std.proofs.Common.{◌/◌, length, rules}
+use Rattle.std.proofs.lemmas.Iterator.{YieldsList-from_slice}
+use Rattle.std.proofs.lemmas.Iterator.Consumers.{fold_from_yields_List}
+use Rattle.seal.specs.Crc.{run}
+use Rattle.seal.proofs.Runs.{run_chunks}
 use Rattle.seal.proofs.checksum.register.Goals as goal
 
-pub loop-head-preserved : goal.loop-head-preserved
-loop-head-preserved c =
-    let e = run-parts c.loop-head.c 504 c.loop-head.rest.now in
-    let s = c.in-Some.ensures.cases in
-    let i = c.loop-head.invariant in
+pub returns : goal.returns
+returns c =
+    let whole = fold_from_yields_List _ run c.args.from c.fold.result c.fold.ensures.ran (YieldsList-from_slice c.as_chunks.result.0.now cc) (λ a x b q k. search rules) in
+    let all = run_chunks 504 (length c.args.bytes.now / 504) c.args.from c.args.bytes.now in
     cc

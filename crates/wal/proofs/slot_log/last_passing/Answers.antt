@@ -3,26 +3,23 @@ use Rattle.std.proofs.lemmas.List.{get_or_past}
 use Rattle.wal.specs.Journal.{lost}
 use Rattle.wal.specs.Slots.{memory_slots}
 use Rattle.wal.proofs.Memories.{length-memory, slot_fails, slot-passes}
-use Rattle.wal.proofs.Rows.{beyond-down, last-at, last_none}
+use Rattle.wal.proofs.Rows.{beyond-down, last-at}
 use Rattle.wal.proofs.slot_log.last_passing.Goals as goal
 
 pub loop-position-init : goal.loop-position-init
 loop-position-init c =
     let bs = c.args.memory.now in
-    (omega arith, λ i h. get_or_past (memory_slots bs) i lost (omega (arith, length-memory bs, c.room-position.ensures)))
+    λ i h. get_or_past (memory_slots bs) i lost (omega (arith, length-memory bs, c.room_in-position.ensures))
 
 pub loop-position-preserved : goal.loop-position-preserved
 loop-position-preserved c =
     let bs = c.args.memory.now in
     let n = c.loop-position.position in
-    let gone = slot_fails bs _ n (omega arith) c.loop-position.invariant.0 c.slot.ensures.value c.if-passes.ensures in
-    (omega arith, beyond-down (memory_slots bs) n (omega arith) gone c.loop-position.invariant.1)
+    let gone = slot_fails bs _ n (omega arith) (omega (arith, c.room_in-position.ensures)) c.slot.ensures.value c.if-passes.ensures in
+    beyond-down (memory_slots bs) n (omega arith) gone c.loop-position.invariant
 
 pub returns-then-passes : goal.returns-then-passes
 returns-then-passes c =
     let bs = c.args.memory.now in
     let n = c.loop-position.position in
-    last-at (memory_slots bs) n _ (slot-passes bs _ n (omega arith) c.loop-position.invariant.0 c.slot.ensures.value c.if-passes.ensures) c.loop-position.invariant.1
-
-pub returns-after-loop-position : goal.returns-after-loop-position
-returns-after-loop-position c = last_none (memory_slots c.args.memory.now) c.loop-position.position (omega arith) c.loop-position.invariant.1
+    last-at (memory_slots bs) n (slot-passes bs _ n (omega arith) (omega (arith, c.room_in-position.ensures)) c.slot.ensures.value c.if-passes.ensures) c.loop-position.invariant

@@ -6,14 +6,14 @@ use Rattle.page_build.proofs.fresh.Fresh.of_branch.Goals as goal
 
 pub joined-bytes-requires : goal.joined-bytes-requires
 joined-bytes-requires c =
-    let k = field-short 16 c.args.key.now.image c.args.key.now.fits in
+    let k = field-short 16 c.args.key.now.image (omega (arith, c.args.key.now.fits)) in
     let a = ap length c.prefixed-first.ensures in
     let b = ap length c.to_le_bytes-second.ensures in
     omega arith
 
 pub invariant_of-result : goal.invariant_of-result
 invariant_of-result c =
-    let k = field-short 16 c.args.key.now.image c.args.key.now.fits in
+    let k = field-short 16 c.args.key.now.image (omega (arith, c.args.key.now.fits)) in
     let a = ap length c.prefixed-first.ensures in
     let h : c.args.child < 2 ^ 32 = omega arith in
     let w = branch-bytes (key_of c.args.key.now) c.args.child c.prefixed-first.result.now c.to_le_bytes-second.result

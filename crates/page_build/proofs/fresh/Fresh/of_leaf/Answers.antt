@@ -6,16 +6,16 @@ use Rattle.page_build.proofs.fresh.Fresh.of_leaf.Goals as goal
 
 pub joined-bytes-requires : goal.joined-bytes-requires
 joined-bytes-requires c =
-    let k = field-short 16 c.args.key.now.image c.args.key.now.fits in
-    let v = field-short 64 c.args.value.now.image c.args.value.now.fits in
+    let k = field-short 16 c.args.key.now.image (omega (arith, c.args.key.now.fits)) in
+    let v = field-short 64 c.args.value.now.image (omega (arith, c.args.value.now.fits)) in
     let a = ap length c.prefixed-first.ensures in
     let b = ap length c.prefixed-second.ensures in
     omega arith
 
 pub invariant_of-result : goal.invariant_of-result
 invariant_of-result c =
-    let k = field-short 16 c.args.key.now.image c.args.key.now.fits in
-    let v = field-short 64 c.args.value.now.image c.args.value.now.fits in
+    let k = field-short 16 c.args.key.now.image (omega (arith, c.args.key.now.fits)) in
+    let v = field-short 64 c.args.value.now.image (omega (arith, c.args.value.now.fits)) in
     let a = ap length c.prefixed-first.ensures in
     let b = ap length c.prefixed-second.ensures in
     let w = leaf-bytes (key_of c.args.key.now) (value_of c.args.value.now) c.prefixed-first.result.now c.prefixed-second.result.now

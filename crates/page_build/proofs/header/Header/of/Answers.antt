@@ -1,16 +1,19 @@
-use Rattle.std.proofs.Common.{◌≡◌, ℕ, ◌≤◌, true, List, length, Option, sym, subst}
-use Rattle.order.specs.Fences.{Bound}
-use Rattle.page.specs.Content.{Foster, foster_key}
-use Rattle.page.specs.Form.{is_short}
-use Rattle.page_build.proofs.Shortly.{short-low, short-high, short-foster}
+use Rattle.std.proofs.Common.{ℕ, ◌≤◌, List, length, sym, ap, subst, ◌∙◌, arith}
+use Rattle.order.specs.Fences.{lent}
+use Rattle.page.specs.Content.{foster_key}
+use Rattle.page_view.specs.Lent.{foster_lent}
+use Rattle.page_build.proofs.Shortly.{short-low, short-high, short-foster, short-key}
 use Rattle.page_build.proofs.header.Header.of.Goals as goal
 
 pub new-requires : goal.new-requires
-new-requires c = subst (λ (k : List ℕ). length k ≤ 16) (sym c.low.ensures) (short-low c.args.page.image.now c.args.page.laid)
+new-requires c =
+    let h = subst (λ (k : List ℕ). length k ≤ 16) (sym c.low.ensures) (short-low c.args.page.image.now c.args.page.laid) in (omega arith, omega (arith, h))
 
-pub held_bound-requires : goal.held_bound-requires
-held_bound-requires c = subst (λ (k : Bound). is_short k ≡ true) (sym c.high.ensures) (short-high c.args.page.image.now c.args.page.laid)
+pub map-requires : goal.map-requires
+map-requires c x e =
+    let h = short-key _ x.now (short-high c.args.page.image.now c.args.page.laid) (sym c.high.ensures ∙ ap lent e) in (omega arith, omega (arith, h))
 
-pub held_foster-requires : goal.held_foster-requires
-held_foster-requires c =
-    subst (λ (k : Option Foster). length (foster_key k) ≤ 16) (sym c.foster.ensures) (short-foster c.args.page.image.now c.args.page.laid)
+pub map-requires-2 : goal.map-requires-2
+unfolding foster_key
+map-requires-2 c x e =
+    subst (λ f. length (foster_key f) ≤ 16) (sym c.foster.ensures ∙ ap foster_lent e) (short-foster c.args.page.image.now c.args.page.laid)

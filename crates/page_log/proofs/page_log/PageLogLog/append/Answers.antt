@@ -1,44 +1,32 @@
 use Rattle.std.proofs.Common.{arith}
-use Rattle.page_log.proofs.Pages.{append-off, laid_off, laid_full, laid_by, append-full, append-done, ends-done, append-cut, ends-cut}
+use Rattle.page_log.proofs.Pages.{append-full, append-done, ends-done, append-cut, ends-cut}
 use Rattle.page_log.proofs.page_log.PageLogLog.append.Goals as goal
 
-pub returns-then-not-powered : goal.returns-then-not-powered
-returns-then-not-powered g c =
+pub returns-then-self-capacity-clause-appended : goal.returns-then-self-capacity-clause-appended
+returns-then-self-capacity-clause-appended g c =
+    let log = c.args.self.now in
+    append-full (g.D.PageDevice.disk log.device) log.used log.last c.args.bytes.now c.if-not-powered.ensures (omega (arith, c.capacity.ensures.value))
+
+pub returns-clause-appended : goal.returns-clause-appended
+returns-clause-appended g c =
     let log = c.args.self.now in
     let d = g.D.PageDevice.disk log.device in
-    record {
-      appended = append-off d log.used log.last c.args.bytes.now c.if-not-powered.ensures;
-      laid = laid_off d log.used c.args.bytes.now c.if-not-powered.ensures;
-      ends = λ e. e;
-    }
+    append-done d _ log.used log.last c.args.bytes.now _ _ c.if-not-powered.ensures (omega (arith, c.capacity.ensures.value)) c.told-bytes c.fits-bytes c.stamp-self.ensures c.page_of.ensures c.in_ok-write.ensures
 
-pub returns-then-self-capacity : goal.returns-then-self-capacity
-returns-then-self-capacity g c =
-    let log = c.args.self.now in
-    record {
-      appended = append-full (g.D.PageDevice.disk log.device) log.used log.last c.args.bytes.now c.if-not-powered.ensures (omega (arith, c.capacity.ensures.value));
-      laid = laid_full (g.D.PageDevice.disk log.device) log.used c.args.bytes.now (omega (arith, c.capacity.ensures.value));
-      ends = λ e. e;
-    }
-
-pub returns-in-Done : goal.returns-in-Done
-returns-in-Done g c =
+pub invariant_of-self-2 : goal.invariant_of-self-2
+invariant_of-self-2 g c =
     let log = c.args.self.now in
     let d = g.D.PageDevice.disk log.device in
-    let on = c.if-not-powered.ensures in
-    record {
-      appended = append-done d _ log.used log.last c.args.bytes.now _ _ on (omega (arith, c.capacity.ensures.value)) c.told-bytes c.fits-bytes c.stamp-self.ensures c.page_of.ensures c.in-Done.ensures;
-      laid = laid_by d _ log.used c.args.bytes.now _ _ _ (omega (arith, c.capacity.ensures.value)) c.stamp-self.ensures c.page_of.ensures c.in-Done.ensures;
-      ends = ends-done d _ log.used log.last c.args.bytes.now _ _ on (omega (arith, c.capacity.ensures.value)) c.told-bytes c.fits-bytes c.stamp-self.ensures c.page_of.ensures c.in-Done.ensures;
-    }
+    record { ends = ends-done d _ log.used log.last c.args.bytes.now _ _ c.if-not-powered.ensures (omega (arith, c.capacity.ensures.value)) c.told-bytes c.fits-bytes c.stamp-self.ensures c.page_of.ensures c.in_ok-write.ensures log.ends }
 
-pub returns-in-Off : goal.returns-in-Off
-returns-in-Off g c =
+pub returns-in_err-write-clause-appended : goal.returns-in_err-write-clause-appended
+returns-in_err-write-clause-appended g c =
     let log = c.args.self.now in
     let d = g.D.PageDevice.disk log.device in
-    let on = c.if-not-powered.ensures in
-    record {
-      appended = append-cut d _ log.used log.last c.args.bytes.now _ _ on (omega (arith, c.capacity.ensures.value)) c.told-bytes c.fits-bytes c.stamp-self.ensures c.page_of.ensures c.in-Off.ensures;
-      laid = laid_by d _ log.used c.args.bytes.now _ _ _ (omega (arith, c.capacity.ensures.value)) c.stamp-self.ensures c.page_of.ensures c.in-Off.ensures;
-      ends = ends-cut d _ log.used log.last c.args.bytes.now _ _ on (omega (arith, c.capacity.ensures.value)) c.told-bytes c.fits-bytes c.stamp-self.ensures c.page_of.ensures c.in-Off.ensures;
-    }
+    append-cut d _ log.used log.last c.args.bytes.now _ _ c.if-not-powered.ensures (omega (arith, c.capacity.ensures.value)) c.told-bytes c.fits-bytes c.stamp-self.ensures c.page_of.ensures c.in_err-write.ensures c.from_residual.result c.from_residual.ensures.1
+
+pub invariant_of-self-in-Break-1 : goal.invariant_of-self-in-Break-1
+invariant_of-self-in-Break-1 g c =
+    let log = c.args.self.now in
+    let d = g.D.PageDevice.disk log.device in
+    record { ends = ends-cut d _ log.used log.last c.args.bytes.now _ _ c.if-not-powered.ensures (omega (arith, c.capacity.ensures.value)) c.told-bytes c.fits-bytes c.stamp-self.ensures c.page_of.ensures c.in_err-write.ensures log.ends }
