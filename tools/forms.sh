@@ -24,7 +24,7 @@ say '5 requires that stand three times or more' 'requires( [a-z_]+)? \{ (is_laid
 say '5 parameters together' 'order: &O, (page|image): PageView|^    order: &O,$' "$comment"
 say '6 buffers with a length, sorted rows searched' '^ +(pub(\(crate\))? )?len: usize|used: u32,|while low < high' "$comment"
 say '7 tables of functions' '\bfn\(|\bdyn |Fn(Once|Mut)?\(' "$comment"
-answers() { # in the work tree, or at a commit
+answers() { # at a commit, without one at HEAD
     git ls-tree -r --name-only "${at:-HEAD}" crates | grep -E '/proofs/.*Answers\.antt$' | while read -r f; do git show "${at:-HEAD}:$f"; done | grep -cE '^pub '
 }
 printf '8 answers in proofs/: %s\n' "$(answers)"

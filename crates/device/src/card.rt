@@ -57,6 +57,7 @@ impl<'a> PageDevice for Card<'a> {
     {
         let page = page as usize;
         if page < self.bytes.len() / 512 {
+            // by range: of chunks of a `&mut` slice the library does not say what the slice is in the end
             let start = page * 512;
             self.bytes[start..start + 512].copy_from_slice(bytes);
         }

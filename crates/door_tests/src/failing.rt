@@ -79,13 +79,9 @@ impl<D: PageDevice> PageDevice for Failing<D> {
         if page as usize >= self.count() {
             return Ok(());
         }
-        match self.left {
-            Some(0) => {}
-            Some(left) => {
-                self.left = Some(left - 1);
-                return self.inner.write(page, bytes);
-            }
-            None => return self.inner.write(page, bytes),
+        if self.left != Some(0) {
+            self.left = self.left.map(|writes| writes.saturating_sub(1));
+            return self.inner.write(page, bytes);
         }
         self.on = false;
         self.left = None;

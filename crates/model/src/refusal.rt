@@ -5,11 +5,11 @@ ghost use Rattle.model.specs.Refusals.{check_number, number_of};
 // What a page on a key's way is held against.
 #[derive(Clone, Copy, PartialEq, Eq, Debug, Drop)]
 pub enum Check {
-    LowFence,
-    HighFence,
-    Level,
+    LowFence = 1,
+    HighFence = 2,
+    Level = 3,
     // its number is that of no page yet
-    NotBorn,
+    NotBorn = 4,
 }
 
 impl From<Check> for u8 {
@@ -17,12 +17,7 @@ impl From<Check> for u8 {
 
     // The number by which a check is told.
     fn from(check: Check) -> u8 {
-        match check {
-            Check::LowFence => 1,
-            Check::HighFence => 2,
-            Check::Level => 3,
-            Check::NotBorn => 4,
-        }
+        check as u8
     }
 }
 

@@ -21,7 +21,8 @@ fn follows<O: KeyOrder, R: KeyRow>(order: &O, row: &R, slot: usize) -> bool
     key.len() <= MAX_KEY && (slot == 0 || order.compare(row.key(slot - 1), key).is_lt())
 }
 
-// The slot that has the key, or else how many keys are less. Keys lie in slots, and there is no slice of them to search by the library.
+// The slot that has the key, or else how many keys are less. Keys lie in slots, each lent as a slice, and there
+// is no slice of them to search by the library; the key looked for is such a slice, too.
 pub fn find<O: KeyOrder, R: KeyRow>(order: &O, row: &R, key: &[u8]) -> Result<usize, usize>
     requires ascending { Ascending O.KeyOrder.says (R.KeyRow.keys row.now) }
     requires short { length key.now ≤ 16 }

@@ -36,6 +36,7 @@ fn prefixes(rt: HostRuntime) {
 fn one_byte_apart(rt: HostRuntime) {
     let text = TEXT;
     for n in 1..18 {
+        // by place: the byte there is changed in two keys
         for i in 0..n {
             let mut low = TEXT;
             let mut high = TEXT;

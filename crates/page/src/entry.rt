@@ -32,7 +32,7 @@ pub(crate) fn ends_at(b: &[u8], own: u32, level: u8, at: usize, end: usize) -> b
     }
 }
 
-// A key may follow the one before it, or as the first the low fence.
+// A key may follow the one before it, or as the first the low fence. Neither lies in a page that is known to be one yet.
 pub(crate) fn is_next<O: KeyOrder>(
     order: &O,
     first: bool,

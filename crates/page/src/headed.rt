@@ -23,6 +23,7 @@ impl<'a> Headed<'a> {
         ensures made { is_some result ≡ is_header image.now }
         ensures kept { IfSome result (λ h. h.image.now ≡ image.now) }
     {
+        // no `then_some`: it would be made before the test
         if is_header(image) {
             Some(Headed { image })
         } else {
@@ -50,6 +51,7 @@ impl<'a> Headed<'a> {
         ensures { lent result ≡ (parse_page self.now.image.now).high }
     {
         let b = self.image;
+        // no `then`: its closure would have to ask for the field's room
         if b[HIGH] == 255 {
             None
         } else {

@@ -16,10 +16,7 @@ impl EntryRow for Alone<'_> {
     ghost entries = { λ s. listed s.fresh };
 
     fn count(&self) -> usize {
-        match self.fresh {
-            None => 0,
-            Some(_) => 1,
-        }
+        usize::from(self.fresh.is_some())
     }
 
     fn entry(&self, _i: usize) -> &[u8] {

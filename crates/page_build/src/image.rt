@@ -1,5 +1,5 @@
 // A page image made of a header and a row of entries.
-ghost use Rattle.std.specs.Prelude.{◌≡◌, ◌≤◌, leb, replicate, if◌then◌else◌, Some, None, nat_le};
+ghost use Rattle.std.specs.Prelude.{◌≡◌, ◌≤◌, replicate, if◌then◌else◌, Some, None, nat_le};
 ghost use Rattle.page.specs.Content.{costs};
 ghost use Rattle.page.specs.Image.{encode_page};
 ghost use Rattle.page_build.specs.Told.{content_of};
@@ -23,6 +23,7 @@ fn fill<R: EntryRow>(out: &mut [u8; 512], row: &R) -> usize
     ensures after { out.new ≡ written (R.EntryRow.entries row.now) }
 {
     let mut at = HEAP_END;
+    // by slot, which is how a row gives its entries, whatever it is made of
     for i in 0..row.count() {
         at = put_before(out, at, row.entry(i));
         put(out, SLOTS + 2 * i, &(at as u16).to_le_bytes());
@@ -59,7 +60,8 @@ fn fits<R: EntryRow>(row: &R) -> bool
 
 // The image of a page, if its entries fit.
 pub fn fitted<R: EntryRow>(h: &Header, row: &R) -> Option<[u8; 512]>
-    ensures { result ≡ (if leb (costs (R.EntryRow.entries row.now)) 436 then Some (encode_page (content_of h.now (R.EntryRow.entries row.now))) else None) }
+    ensures { result ≡ (if nat_le (costs (R.EntryRow.entries row.now)) 436 then Some (encode_page (content_of h.now (R.EntryRow.entries row.now))) else None) }
 {
+    // no `then`: what `build` asks of the row, its closure would have to ask
     if fits(row) { Some(build(h, row)) } else { None }
 }

@@ -22,6 +22,7 @@ impl EntryRow for Spliced<'_> {
         let n = self.old.count();
         let kept = self.keep.min(n);
         let rest = n.saturating_sub(self.resume);
+        // told apart as `entry` does
         match self.fresh {
             None => kept + rest,
             Some(_) => kept + 1 + rest,

@@ -26,16 +26,12 @@ pub extern "C" fn page_finds(bytes: &[u8], keys: &[u8], turns: u32) -> u64 {
     let Some((image, _)) = bytes.split_first_chunk::<512>() else {
         return 0;
     };
-    match Ordered::new(&ByteOrder, image) {
-        Some(page) => finds(page, keys, turns),
-        None => 0,
-    }
+    Ordered::new(&ByteOrder, image).map_or(0, |page| finds(page, keys, turns))
 }
 
 fn slot_of(page: Ordered<'_, ByteOrder>, key: &[u8; 8]) -> u64 {
     match page.find(key) {
-        Ok(i) => i as u64,
-        Err(i) => i as u64,
+        Ok(i) | Err(i) => i as u64,
     }
 }
 

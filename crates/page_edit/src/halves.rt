@@ -34,32 +34,45 @@ pub fn divider(page: PageView<'_>) -> usize
     page.count()
 }
 
-fn slot_key<O: KeyOrder>(page: Ordered<'_, O>, slot: usize) -> Key
-    requires { slot < length (parse_page page.view.image.now).entries }
-    ensures { key_of result ≡ entry_key (entry_at (parse_page page.entry.view.image.now) slot) }
-{
-    Key::new(page.view.entry(slot).key())
+// The division of a page: its entries from a slot on go to the new page `other`, its foster child.
+#[derive(Drop)]
+pub struct Division<'a, O: KeyOrder> {
+    pub page: Ordered<'a, O>,
+    pub lsn: u32,
+    pub slot: usize,
+    pub other: u32,
+    ghost within: { slot < length (parse_page page.view.image.now).entries },
 }
 
-// The page without its entries from a slot on, which its new foster child has.
-pub fn lower_half<O: KeyOrder>(page: Ordered<'_, O>, lsn: u32, slot: usize, other: u32) -> [u8; 512]
-    requires { slot < length (parse_page page.view.image.now).entries }
-    ensures { result ≡ encode_page (lower_half O.KeyOrder.says lsn (entry_key (entry_at (parse_page page.entry.view.image.now) slot)) other (parse_page page.entry.view.image.now)) }
-{
-    let key = slot_key(page, slot);
-    let mut h = Header::of(page.view, lsn);
-    h.foster = Some(Foster { key, child: other });
-    kept(&h, page.view, slot, page.view.count())
-}
+impl<O: KeyOrder> Division<'_, O> {
+    // The key from which on the new page has the entries.
+    fn key(&self) -> Key
+        ensures { key_of result ≡ entry_key (entry_at (parse_page self.now.page.view.image.now) self.now.slot) }
+    {
+        Key::new(self.page.view.entry(self.slot).key())
+    }
 
-// The new page with the entries from that slot on.
-pub fn upper_half<O: KeyOrder>(page: Ordered<'_, O>, lsn: u32, slot: usize, other: u32) -> [u8; 512]
-    requires { slot < length (parse_page page.view.image.now).entries }
-    ensures { result ≡ encode_page (upper_half O.KeyOrder.says lsn (entry_key (entry_at (parse_page page.entry.view.image.now) slot)) other (parse_page page.entry.view.image.now)) }
-{
-    let key = slot_key(page, slot);
-    let mut h = Header::of(page.view, lsn);
-    h.number = other;
-    h.low = key;
-    kept(&h, page.view, 0, slot)
+    // The page without its entries from the slot on.
+    pub fn lower(&self) -> [u8; 512]
+        ensures { result ≡ encode_page (lower_half O.KeyOrder.says self.now.lsn (entry_key (entry_at (parse_page self.now.page.view.image.now) self.now.slot)) self.now.other (parse_page self.now.page.view.image.now)) }
+    {
+        let page = self.page.view;
+        let mut h = Header::of(page, self.lsn);
+        h.foster = Some(Foster {
+            key: self.key(),
+            child: self.other,
+        });
+        kept(&h, page, self.slot, page.count())
+    }
+
+    // The new page with those entries.
+    pub fn upper(&self) -> [u8; 512]
+        ensures { result ≡ encode_page (upper_half O.KeyOrder.says self.now.lsn (entry_key (entry_at (parse_page self.now.page.view.image.now) self.now.slot)) self.now.other (parse_page self.now.page.view.image.now)) }
+    {
+        let page = self.page.view;
+        let mut h = Header::of(page, self.lsn);
+        h.number = self.other;
+        h.low = self.key();
+        kept(&h, page, 0, self.slot)
+    }
 }

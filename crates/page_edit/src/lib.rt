@@ -6,7 +6,7 @@ mod kept;
 mod place;
 mod roots;
 
-pub use halves::{cost, divider, lower_half, upper_half};
+pub use halves::{Division, cost, divider};
 pub use kept::{after_adoption, grown_child};
 pub use place::{adopt, put, remove};
 pub use roots::{format, grown_root};

@@ -71,9 +71,9 @@ pub fn adopt<O: KeyOrder>(
 pub fn remove<O: KeyOrder>(page: Ordered<'_, O>, lsn: u32, key: &Key) -> Option<[u8; 512]>
     ensures { result ≡ image_if (has O.KeyOrder.says (key_of key.now) (parse_page page.entry.view.image.now).entries) (after_remove O.KeyOrder.says lsn (key_of key.now) (parse_page page.entry.view.image.now)) }
 {
+    let Ok(slot) = page.find(key.bytes()) else {
+        return None;
+    };
     let h = Header::of(page.view, lsn);
-    match page.find(key.bytes()) {
-        Ok(i) => Some(kept(&h, page.view, i, i + 1)),
-        Err(_) => None,
-    }
+    Some(kept(&h, page.view, slot, slot + 1))
 }

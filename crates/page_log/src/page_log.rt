@@ -2,7 +2,8 @@
 ghost use Rattle.std.specs.Prelude.{◌≡◌};
 ghost use Rattle.device.specs.Disk.{woken};
 ghost use Rattle.wal.specs.Appends.{Appended};
-ghost use Rattle.page_log.specs.Pages.{EndsAtLast, Laid, page_journal};
+ghost use Rattle.wal.specs.Slots.{LastPassing};
+ghost use Rattle.page_log.specs.Pages.{EndsAtLast, Laid, page_journal, page_slots};
 
 use crate::slots::{last_passing, page_of, record_at, with_last};
 use device::{PageDevice, PowerOff};
@@ -11,6 +12,7 @@ use wal::{AppendError, Log, RecordError, room, stamp};
 #[derive(Drop)]
 pub struct PageLog<D: PageDevice> {
     device: D,
+    // a length beside, since the device is as large as it is
     used: u32,
     // what the last append wrote: where power fails in an append, only a look at its page can tell whether it was added
     last: [u8; 128],
@@ -21,7 +23,8 @@ pub struct PageLog<D: PageDevice> {
 impl<D: PageDevice> PageLog<D> {
     // Wakes the device, which has to be on to be looked at.
     pub fn new(mut device: D) -> PageLog<D>
-        ensures { D.PageDevice.disk result.device ≡ woken (D.PageDevice.disk device) }
+        ensures device { D.PageDevice.disk result.device ≡ woken (D.PageDevice.disk device) }
+        ensures ends { LastPassing (page_slots (D.PageDevice.disk device)) result.used }
     {
         device.wake();
         let used = last_passing(&mut device);

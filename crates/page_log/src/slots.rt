@@ -18,6 +18,7 @@ pub fn page_of(record: &[u8; 128]) -> [u8; 512]
     page
 }
 
+// Positions are numbers from 1 on, as a log's trait takes them.
 pub fn record_at<D: PageDevice>(device: &mut D, position: u32) -> Result<[u8; 128], RecordError>
     requires { 0 < position }
     ensures value { result ≡ looked (D.disk device.old) position }

@@ -2,7 +2,7 @@
 use field::{Key, Value};
 use order::ByteOrder;
 use page::check;
-use page_edit::{adopt, cost, divider, lower_half, put, remove, upper_half};
+use page_edit::{Division, adopt, cost, divider, put, remove};
 use page_view::Ordered;
 
 pub(crate) fn is_page(image: &[u8; 512]) -> bool {
@@ -21,23 +21,35 @@ pub(crate) fn adopt_into(image: &[u8; 512], lsn: u32, key: &Key, child: u32) -> 
     adopt(Ordered::new(&ByteOrder, image)?, lsn, key, child)
 }
 
-// What a page costs and where it divides; 0 for both where it is none.
-pub(crate) fn measures(image: &[u8; 512]) -> (usize, usize) {
-    Ordered::new(&ByteOrder, image).map_or((0, 0), |page| (cost(page.view), divider(page.view)))
+// What a page costs, and where it divides.
+pub(crate) fn measures(image: &[u8; 512]) -> Option<(usize, usize)> {
+    let page = Ordered::new(&ByteOrder, image)?.view;
+    Some((cost(page), divider(page)))
+}
+
+// The division of a page, if the page has the slot.
+fn division(
+    image: &[u8; 512],
+    lsn: u32,
+    slot: usize,
+    other: u32,
+) -> Option<Division<'_, ByteOrder>> {
+    let page = Ordered::new(&ByteOrder, image)?;
+    if slot >= page.view.count() {
+        return None;
+    }
+    Some(Division {
+        page,
+        lsn,
+        slot,
+        other,
+    })
 }
 
 pub(crate) fn lower(image: &[u8; 512], lsn: u32, slot: usize, other: u32) -> Option<[u8; 512]> {
-    let page = Ordered::new(&ByteOrder, image)?;
-    if slot >= page.view.count() {
-        return None;
-    }
-    Some(lower_half(page, lsn, slot, other))
+    Some(division(image, lsn, slot, other)?.lower())
 }
 
 pub(crate) fn upper(image: &[u8; 512], lsn: u32, slot: usize, other: u32) -> Option<[u8; 512]> {
-    let page = Ordered::new(&ByteOrder, image)?;
-    if slot >= page.view.count() {
-        return None;
-    }
-    Some(upper_half(page, lsn, slot, other))
+    Some(division(image, lsn, slot, other)?.upper())
 }

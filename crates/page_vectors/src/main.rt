@@ -39,6 +39,7 @@ fn tried(line: &str) -> Outcome {
     let Some(image) = image_of(words.next()) else {
         return Outcome::Otherwise;
     };
+    // no guards: on a pattern that binds a page they get no proof
     match Page::new(&ByteOrder, image) {
         Some(page) => {
             if is_told(page.view(), words) && is_built_again(page.view(), &image) {

@@ -55,6 +55,7 @@ impl<'a> PageView<'a> {
         half_at(b, COUNT)
     }
 
+    // its fences are read as those of any page whose header passed
     fn headed(&self) -> Headed<'a>
         ensures { result.image.now ≡ self.now.image.now }
     {
@@ -85,6 +86,7 @@ impl<'a> PageView<'a> {
         ensures { foster_lent result ≡ (parse_page self.now.image.now).foster }
     {
         let b = self.image;
+        // an early return: a closure of `then` would have to ask for the room that the key's field has
         let child = word_at(b, FOSTER_CHILD);
         if child == 0 {
             return None;

@@ -14,6 +14,7 @@ impl Page {
         ensures content { content_of result ≡ decode_page O.KeyOrder.says image }
         ensures kept { ImageKept result image }
     {
+        // no `then_some`: it would be made before the test
         if check(order, &image) {
             Some(Page { image })
         } else {

@@ -35,6 +35,7 @@ impl<'a, O: KeyOrder> Ordered<'a, O> {
         ensures made { is_some result ≡ is_sound O.KeyOrder.says image.now }
         ensures kept { IfSome result (λ p. p.view.image.now ≡ image.now) }
     {
+        // no `then_some`: it would be made before the test
         if check(order, image) {
             Some(Ordered {
                 view: PageView::new(image),
@@ -53,7 +54,7 @@ impl<'a, O: KeyOrder> Ordered<'a, O> {
         Ordered { view, order }
     }
 
-    // The slot that has a key, or else how many keys are less.
+    // The slot that has a key, or else how many keys are less. A key comes as a slice: one that is lent by a page would have to be copied for a `Key`.
     pub fn find(&self, key: &[u8]) -> Result<usize, usize>
         requires short { length key.now ≤ 16 }
         ensures { Found O.KeyOrder.says (keys_of (parse_page self.now.view.image.now)) key.now result }
@@ -61,7 +62,7 @@ impl<'a, O: KeyOrder> Ordered<'a, O> {
         order::find(self.order, &self.view, key)
     }
 
-    // The last slot whose key is not above the given one.
+    // The last slot whose key is not above the given one, a slice as in `find`.
     pub fn floor(&self, key: &[u8]) -> Option<usize>
         requires short { length key.now ≤ 16 }
         ensures { Floor O.KeyOrder.says (keys_of (parse_page self.now.view.image.now)) key.now result }

@@ -4,6 +4,7 @@ use field::{Key, Value};
 #[derive(Clone, Copy)]
 pub(crate) struct Fields {
     pub(crate) position: u32,
+    // a number, as the image has it, until it is known to be a kind's
     pub(crate) kind: u8,
     pub(crate) page: u32,
     pub(crate) previous: u32,

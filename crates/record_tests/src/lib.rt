@@ -21,10 +21,7 @@ mod tests {
         let Some(said) = record else {
             return false;
         };
-        match Record::from_bytes(&said.to_bytes(7)) {
-            Some((position, read)) => position == 7 && read == said,
-            None => false,
-        }
+        Record::from_bytes(&said.to_bytes(7)) == Some((7, said))
     }
 
     // Whether the image is refused once a byte has another value, with a seal to match.

@@ -1,5 +1,5 @@
 // A line of the vectors: an image, the position that it is read at, and then the word `refused` or the other fields.
-use field::{Key, Text, Value};
+use field::Value;
 use hex::FromHex;
 use record::{EntryKey, Kind, Record};
 
@@ -10,8 +10,14 @@ pub(crate) enum Outcome {
     Failed,
 }
 
+// Digits as the vectors write them, in lower case; the library takes both.
+fn are_lower(word: &str) -> bool {
+    !word.as_bytes().iter().any(|b| b.is_ascii_uppercase())
+}
+
 fn image_of(word: &str) -> Option<[u8; 128]> {
-    <[u8; 128] as FromHex>::from_hex(word).ok()
+    let image = <[u8; 128] as FromHex>::from_hex(word).ok()?;
+    are_lower(word).then_some(image)
 }
 
 fn number(word: &str) -> Option<u32> {
@@ -22,16 +28,19 @@ fn kind_of(word: &str) -> Option<Kind> {
     Kind::try_from(word.parse::<u8>().ok()?).ok()
 }
 
-// No bytes are written `-`.
-fn text_of<const SIZE: usize>(word: &str) -> Option<Text<SIZE>> {
+// No bytes are written `-`. A key is read so, too: a kind without one may have any bytes there.
+fn value_of(word: &str) -> Option<Value> {
     let digits = if word == "-" { "" } else { word };
-    let mut room = [0; SIZE];
+    let mut room = [0; 64];
     let bytes = room.get_mut(..digits.len() / 2)?;
     hex::decode_to_slice(digits.as_bytes(), bytes).ok()?;
-    Text::try_from(&*bytes).ok()
+    if !are_lower(digits) {
+        return None;
+    }
+    Value::try_from(&*bytes).ok()
 }
 
-fn content(kind: Kind, numbers: [u32; 5], key: Key, value: Value) -> Option<Record> {
+fn content(kind: Kind, numbers: [u32; 5], key: &[u8], value: Value) -> Option<Record> {
     let [page, previous, other, other_previous, child] = numbers;
     let key = EntryKey::try_from(key).ok();
     Some(match kind {
@@ -76,9 +85,9 @@ fn expected(fields: &str) -> Option<Option<Record>> {
     for n in numbers.iter_mut() {
         *n = number(words.next()?)?;
     }
-    let key = text_of(words.next()?)?;
-    let value = text_of(words.next()?)?;
-    Some(Some(content(kind, numbers, key, value)?))
+    let key = value_of(words.next()?)?;
+    let value = value_of(words.next()?)?;
+    Some(Some(content(kind, numbers, key.bytes(), value)?))
 }
 
 fn compared(image: &[u8; 128], position: u32, expected: Option<Record>) -> Outcome {

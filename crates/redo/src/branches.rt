@@ -33,6 +33,7 @@ pub(crate) fn redo_adoption<O: KeyOrder>(
 ) -> Option<[u8; 512]>
     ensures { result ≡ image_if (fosters O.KeyOrder.says (key_of key.now) child (parse_page image.entry.view.image.now).foster) (after_adoption position (key_of key.now) (parse_page image.entry.view.image.now)) }
 {
+    // no `then`: tried, and the proof of its closure did not close
     if has_foster(image, key, child) {
         Some(after_adoption(image.view, position, key))
     } else {

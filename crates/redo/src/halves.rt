@@ -9,7 +9,7 @@ ghost use Rattle.redo.specs.Slots.{DividesIn};
 use crate::suits::holds_key;
 use field::Key;
 use order::KeyOrder;
-use page_edit::{lower_half, upper_half};
+use page_edit::Division;
 use page_view::Ordered;
 
 // The slot that has the key. The first does not divide: no entry would stay.
@@ -34,10 +34,16 @@ pub(crate) fn redo_foster<O: KeyOrder>(
     if !holds_key(image, key) {
         return None;
     }
-    let slot = dividing_slot(image, key)?;
+    let mut division = Division {
+        page: image,
+        lsn: position,
+        slot: dividing_slot(image, key)?,
+        other,
+    };
     if page == other {
-        Some(upper_half(image, position, slot, 0))
+        division.other = 0;
+        Some(division.upper())
     } else {
-        Some(lower_half(image, position, slot, other))
+        Some(division.lower())
     }
 }

@@ -59,7 +59,7 @@ fn stream(from: u32, bytes: &[u8]) -> u32
 }
 
 // Three streams of 168 bytes side by side, which the processor works on at once; the second and the third begin at 0.
-fn three(from: u32, first: &[u8], second: &[u8], third: &[u8]) -> (u32, u32, u32)
+fn streams(from: u32, first: &[u8], second: &[u8], third: &[u8]) -> (u32, u32, u32)
     requires first { length first.now ≡ 168 }
     requires second { length second.now ≡ 168 }
     requires third { length third.now ≡ 168 }
@@ -85,7 +85,7 @@ fn chunk(from: u32, bytes: &[u8; 504]) -> u32
 {
     let (first, rest) = bytes.split_at(168);
     let (second, third) = rest.split_at(168);
-    let (c, d, e) = three(from, first, second, third);
+    let (c, d, e) = streams(from, first, second, third);
     carry(OVER_STREAM, carry(OVER_STREAM, c) ^ d) ^ e
 }
 

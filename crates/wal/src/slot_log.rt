@@ -16,6 +16,7 @@ fn room_in(memory: &[u8]) -> u32
     room(memory.len() / 128)
 }
 
+// Positions are numbers from 1 on, as in records and on pages; a type for that would be taken apart here again.
 fn slot(memory: &[u8], position: u32) -> &[u8]
     requires from_one { 0 < position }
     requires within { position ≤ memory_room memory.now }
@@ -26,6 +27,7 @@ fn slot(memory: &[u8], position: u32) -> &[u8]
     &memory[start..start + 128]
 }
 
+// The scan of a device's slots stands beside those; each reads slots of its own kind.
 fn last_passing(memory: &[u8]) -> u32
     ensures { LastPassing (memory_slots memory.now) result }
 {
@@ -45,6 +47,7 @@ fn put(memory: &mut [u8], position: u32, bytes: &[u8; 128])
     ensures room { memory_room memory.new ≡ memory_room memory.old }
     ensures slots { memory_slots memory.new ≡ slice_set (memory_slots memory.old) (position - 1) (entry (stamped position bytes.now)) }
 {
+    // by range: of chunks of a `&mut` slice the library does not say what the slice is in the end
     let start = (position - 1) as usize * 128;
     memory[start..start + 128].copy_from_slice(&stamp(position, bytes));
 }
@@ -52,6 +55,7 @@ fn put(memory: &mut [u8], position: u32, bytes: &[u8; 128])
 #[derive(Drop)]
 pub struct SlotLog<'a> {
     memory: &'a mut [u8],
+    // a length beside, since the memory is lent, and as large as it is
     used: u32,
     // the row ends at the last slot that passes
     pub ghost ends: { LastPassing (memory_slots memory.now) used },
@@ -62,6 +66,7 @@ impl<'a> SlotLog<'a> {
     pub fn new(memory: &'a mut [u8]) -> SlotLog<'a>
         ensures value { result.memory.now ≡ memory.old }
         ensures lent { result.memory.ghost_name ≡ memory.entry.ghost_name }
+        ensures ends { LastPassing (memory_slots memory.old) result.used }
     {
         let used = last_passing(memory);
         SlotLog { memory, used }

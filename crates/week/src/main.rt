@@ -34,13 +34,14 @@ fn line_of(heap: Global, size: LabelSize) -> anyhow::Result<Line> {
     let bytes = size.bitmap_bytes();
     let key = format!(in heap; "{size}")?;
     let value = format!(in heap; "{bytes}")?;
-    match (
-        EntryKey::try_from(key.as_bytes()),
-        Value::try_from(value.as_bytes()),
-    ) {
-        (Ok(key), Ok(value)) => Ok(Line { key, value }),
-        _ => Err(anyhow!("a line does not fit")),
-    }
+    Ok(Line {
+        key: EntryKey::try_from(key.as_bytes())
+            .ok()
+            .context("a line does not fit")?,
+        value: Value::try_from(value.as_bytes())
+            .ok()
+            .context("a line does not fit")?,
+    })
 }
 
 // Appends the line's put to the log, which gives it its position, and tells that.

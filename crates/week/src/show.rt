@@ -10,7 +10,7 @@ use wal::{Log, SlotLog};
 
 // A line of the table as key and value.
 #[derive(Clone, Copy)]
-pub struct Line {
+pub(crate) struct Line {
     pub key: EntryKey,
     pub value: Value,
 }
@@ -47,7 +47,7 @@ impl fmt::Display for Text<'_> {
 }
 
 // The put of a line at its position, and its seal.
-pub fn show_record(
+pub(crate) fn show_record(
     rt: &impl Print,
     log: &mut SlotLog<'_>,
     position: u32,
@@ -76,7 +76,7 @@ fn show_entries(rt: &impl Print, page: PageView<'_>) -> anyhow::Result<()> {
     Ok(())
 }
 
-pub fn show_card(rt: &impl Print, card: &mut Card<'_>) -> anyhow::Result<()> {
+pub(crate) fn show_card(rt: &impl Print, card: &mut Card<'_>) -> anyhow::Result<()> {
     let Ok(leaf) = card.read(0) else {
         println!(rt; "  page 0 cannot be read")?;
         return Ok(());

@@ -8,9 +8,9 @@ pub returns : goal.returns
 returns c =
     let s = c.split_at.ensures in
     let t = c.split_at-2.ensures in
-    let r = c.three-c.ensures in
-    let one : ℕ = c.three-c.result.0 in
-    let two : ℕ = bit_xor c.carry.result c.three-c.result.1 in
+    let r = c.streams-c.ensures in
+    let one : ℕ = c.streams-c.result.0 in
+    let two : ℕ = bit_xor c.carry.result c.streams-c.result.1 in
     let second : length c.split_at-2.result.0.now ≡ 168 = omega arith in
     let third : length c.split_at-2.result.1.now ≡ 168 = omega (arith, c.told-bytes) in
     let w = by_word 1312 one in

@@ -5,7 +5,7 @@ use Rattle.std.proofs.lemmas.Iterator.{YieldsList-from_slice, YieldsList-from_zi
 use Rattle.std.proofs.lemmas.Iterator.Consumers.{fold_from_yields_List}
 use Rattle.seal.specs.Crc.{run}
 use Rattle.seal.proofs.Runs.{run_whole, run_three, step_three}
-use Rattle.seal.proofs.checksum.three.Goals as goal
+use Rattle.seal.proofs.checksum.streams.Goals as goal
 
 pub returns : goal.returns
 returns c =
