@@ -1,11 +1,8 @@
-use Rattle.std.proofs.Common.{ℕ, List, Some, ap, ◌∙◌, arith}
+use Rattle.std.proofs.Common.{ℕ, List, Some, ap, ◌∙◌}
 use Rattle.order.specs.Fences.{Bound}
 use Rattle.page.specs.Image.{parse_page}
-use Rattle.page.proofs.Heads.{head, bound-none, bound_some}
+use Rattle.page.proofs.Heads.{bound-none, bound_some}
 use Rattle.page.proofs.headed.Headed.high.Goals as goal
-
-pub field_at-requires : goal.field_at-requires
-field_at-requires c = let n = c.args.self.now.size in let h = (head c.args.self.now.image.now c.args.self.now.size c.args.self.now.passed).high c.if-b.false in omega arith
 
 pub returns-then-b : goal.returns-then-b
 unfolding parse_page

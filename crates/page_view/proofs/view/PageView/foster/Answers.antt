@@ -1,17 +1,9 @@
-use Rattle.std.proofs.Common.{ℕ, List, Some, Option, sym, ◌∙◌, ap₂, arith}
+use Rattle.std.proofs.Common.{ℕ, List, Some, Option, sym, ◌∙◌, ap₂}
 use Rattle.field.specs.Fields.{field_at, word}
 use Rattle.page.specs.Content.{Foster}
 use Rattle.page.specs.Image.{parse_page}
-use Rattle.page.proofs.Heads.{head}
-use Rattle.page.proofs.Laid.{header-passes}
 use Rattle.page.proofs.Parsed.{foster-none, foster-some}
 use Rattle.page_view.proofs.view.PageView.foster.Goals as goal
-
-pub field_at-requires : goal.field_at-requires
-field_at-requires c =
-    let n = c.args.self.now.size in
-    let h = (head c.args.self.now.image.now n (header-passes c.args.self.now.image.now c.args.self.now.bytes n c.args.self.now.laid)).fkey in
-    omega arith
 
 pub returns-then-child-eq0 : goal.returns-then-child-eq0
 unfolding parse_page
