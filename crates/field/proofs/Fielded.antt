@@ -1,11 +1,12 @@
 -- Laws of fields: read back from where they were put, and tested by their zeros.
 use Rattle.std.proofs.Math.Bool.{and_assoc, and-true}
 use Rattle.std.proofs.Math.ListN.{set}
-use Rattle.std.proofs.Common.{◌≡◌, ℕ, zero, suc, ◌+◌, ◌-◌, ◌<◌, ◌≤◌, Bool, true, false, ◌&&◌, eqb, leb, List, ◌∷◌, ◌++◌, length, get_or, take, drop, replicate, sym, refl, ap, ◌∙◌, ap₂, one-add, arith}
+use Rattle.std.proofs.Common.{◌≡◌, ℕ, zero, suc, ◌+◌, ◌-◌, ◌<◌, ◌≤◌, Bool, true, false, ◌&&◌, eqb, leb, List, ◌∷◌, ◌++◌, length, get_or, take, drop, replicate, Decides, sym, refl, ap, ◌∙◌, ap₂, one-add, arith}
 use borrow.Rule.Slice.PartMut.{put_mid}
 use lib.Bits.{bit_or, or_add_and, and_le_l, and_le_r}
 use Rattle.std.proofs.lemmas.List.{take_at, drop_at, take-append-drop, drop-drop, drop_more, drop_all, drop-replicate, take_rest, length-take-le}
 use Rattle.std.proofs.lemmas.Bool.{and_parts, and_from, eqb-true, eq-eqb, le-leb, lt-leb}
+use Rattle.std.proofs.lemmas.Bool.Decides.{Decides-like}
 use Rattle.field.specs.Fields.{field, field_at, prefixed, are_zeros, is_field}
 
 pub put-drop : (a e : ℕ) (xs ys : List ℕ) → a ≤ e → e ≤ length xs → drop a (put_mid a (e - a) xs ys) ≡ ys ++ drop e xs
@@ -25,7 +26,7 @@ prefixed-is n image e =
     ∙ ap (λ (b : List ℕ). length k ∷ b) (take_at k (replicate (n - length k) 0) (length k) refl)
 
 -- a field reads back
-field_back : (n : ℕ) (k : List ℕ) → field_at (field n k) 0 ≡ k
+pub field_back : (n : ℕ) (k : List ℕ) → field_at (field n k) 0 ≡ k
 unfolding field field_at
 field_back n k = take_at k (replicate (n - length k) 0) (length k) refl
 
@@ -67,7 +68,7 @@ field-long m f n e h =
     ∙ ap (λ (i : ℕ). leb i m && are_zeros (drop (1 + i) f)) e
 
 -- a string written behind its length into zeros
-filled : (n : ℕ) (s out : List ℕ) → length s ≤ n
+pub filled : (n : ℕ) (s out : List ℕ) → length s ≤ n
     → take (1 + length s) out ≡ take 1 (length s ∷ replicate n 0) ++ s
     → drop (1 + length s) out ≡ drop (1 + length s) (length s ∷ replicate n 0)
     → out ≡ field n s
@@ -95,3 +96,8 @@ filled_back n s out e = ap (λ (b : List ℕ). field_at b 0) e ∙ field_back n 
 
 pub filled_padded : (n : ℕ) (s out : List ℕ) → out ≡ field n s → out ≡ field n (field_at out 0)
 filled_padded n s out e = e ∙ ap (field n) (sym (filled_back n s out e))
+
+-- whether two fields are the same tells whether they hold the same
+pub same-held : (n : ℕ) (x y : List ℕ) (r : Bool) → x ≡ field n (field_at x 0) → y ≡ field n (field_at y 0)
+    → Decides r (x ≡ y) → Decides r (field_at x 0 ≡ field_at y 0)
+same-held n x y r p q = Decides-like r (ap (λ (b : List ℕ). field_at b 0)) (λ e. p ∙ ap (field n) e ∙ sym q)

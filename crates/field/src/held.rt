@@ -3,7 +3,7 @@ ghost use Rattle.std.specs.Prelude.{◌≡◌, ◌-◌, ◌<◌, slice_index};
 ghost use Rattle.field.specs.Fields.{field, field_at};
 
 /// A string of fewer than `SIZE` bytes, in a field of `SIZE`.
-#[derive(Clone, Copy, PartialEq, Eq)]
+#[derive(Clone, Copy)]
 pub struct Text<const SIZE: usize> {
     pub(crate) image: [u8; SIZE],
     ghost fits: { slice_index image 0 < SIZE },

@@ -1,6 +1,7 @@
 // Fields of fixed layouts: little-endian numbers, and short byte strings behind a length byte.
 #![tactic(auto)]
 
+mod equal;
 mod held;
 mod parts;
 mod reads;

@@ -1,2 +1,2 @@
-mod Bytes
+mod Numbers
 pub mod Steps

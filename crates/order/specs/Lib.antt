@@ -3,4 +3,5 @@ pub mod Lawful
 pub mod Lent
 pub mod Orders
 pub mod Slots
+pub mod Wide
 pub mod Laws

@@ -3,9 +3,7 @@
 // child, and the entries: key and value in a leaf, key and child in a branch. `-` is an empty string, and `*` no bound.
 #![tactic(auto)]
 
-use hex::FromHex;
 use order::ByteOrder;
-use page::layout::MAX_VALUE;
 use page_build::{EntryRow, Header, Spliced, fitted};
 use page_view::{Page, PageView};
 use std::io;
@@ -120,15 +118,37 @@ fn is_bytes(word: Option<&str>, bytes: &[u8]) -> bool {
     }
 }
 
-// No key or value is longer than 64 bytes.
+// A digit too many, at the end, is passed over.
 fn is_hex(digits: &str, bytes: &[u8]) -> bool {
-    let mut read = [0; MAX_VALUE];
-    let Some(read) = read.get_mut(..bytes.len()) else {
-        return false;
-    };
-    hex::decode_to_slice(digits, read).is_ok() && *read == *bytes
+    let (pairs, _) = digits.as_bytes().as_chunks::<2>();
+    pairs.len() == bytes.len() && pairs.iter().zip(bytes).all(|(pair, b)| byte(*pair) == *b)
 }
 
 fn image_of(word: Option<&str>) -> Option<[u8; 512]> {
-    <[u8; 512] as FromHex>::from_hex(word?).ok()
+    let (pairs, []) = word?.as_bytes().as_chunks::<2>() else {
+        return None;
+    };
+    let mut image = [0; 512];
+    if pairs.len() != image.len() {
+        return None;
+    }
+    for (b, pair) in image.iter_mut().zip(pairs) {
+        *b = byte(*pair);
+    }
+    Some(image)
+}
+
+// Not by the library's `hex`: it takes capitals and refuses other letters, and it is slower.
+fn byte(pair: [u8; 2]) -> u8 {
+    let [high, low] = pair.map(digit);
+    high.wrapping_mul(16).wrapping_add(low)
+}
+
+// The vectors write digits in lower case; any other letter reads as zero.
+fn digit(c: u8) -> u8 {
+    match c {
+        b'0'..=b'9' => c - b'0',
+        b'a'..=b'f' => c - b'a' + 10,
+        _ => 0,
+    }
 }
